@@ -1,0 +1,9 @@
+pub mod Locks
+pub mod Cover
+pub mod Plans
+pub mod Ranks
+pub mod Removal
+pub mod Places
+pub mod Candidates
+pub mod Judge
+pub mod Figures

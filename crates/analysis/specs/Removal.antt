@@ -1,0 +1,32 @@
+-- Taking rows out of a set. Assumes nothing.
+use mathlib.Core.Path.{_≡_}
+use mathlib.Core.List.{List, [], _∷_}
+use Prim.Native.Nat.{ℕ, zero, suc, _≤_, _<_}
+use lib.ListN.{length}
+use Rattle.analysis.specs.Plans.{Bounds}
+use Rattle.analysis.specs.Ranks.{Claim, loads, system}
+
+-- the list xs has some of the members of ys, in the same order, each as E says
+pub data Some-of {A B : Type 0} (E : A → B → Type 0) : List A → List B → Type 0 where
+  none : Some-of E [] []
+  keep : {a : A} {b : B} {xs : List A} {ys : List B} → E a b → Some-of E xs ys → Some-of E (a ∷ xs) (b ∷ ys)
+  leave : {b : B} {xs : List A} {ys : List B} → Some-of E xs ys → Some-of E xs (b ∷ ys)
+
+-- the rank in ys of what has rank k in xs
+abbrev pub rank-of : {A B : Type 0} {E : A → B → Type 0} {xs : List A} {ys : List B} → Some-of E xs ys → ℕ → ℕ
+rank-of none k = k
+rank-of (keep e s) zero = zero
+rank-of (keep e s) (suc k) = suc (rank-of s k)
+rank-of (leave s) k = suc (rank-of s k)
+
+-- the ranked rows xs are in time, and none of their bounds is larger than R was among the ranked rows ys
+pub record In-time-still (xs ys : List Claim) (kept : Some-of _≡_ xs ys) (R : ℕ → ℕ) : Type 0 where
+  pub Q : ℕ → ℕ
+  pub W : ℕ → ℕ
+  pub bounds : Bounds (system (loads xs)) (length xs) Q W
+  pub no-larger : (k : ℕ) → k < length xs → Q k ≤ R (rank-of kept k)
+
+-- taking rows out of ranked rows that are in time leaves the rest in time, with bounds no larger
+abbrev pub Removal-keeps-in-time : List Claim → Type 0
+Removal-keeps-in-time ys =
+    (R V : ℕ → ℕ) → Bounds (system (loads ys)) (length ys) R V → (xs : List Claim) (kept : Some-of _≡_ xs ys) → In-time-still xs ys kept R

@@ -1,0 +1,5 @@
+pub mod Demand
+pub mod Basic
+pub mod Made
+pub mod Refusals
+pub mod Figures
