@@ -4,6 +4,7 @@ use mathlib.Core.List.{List}
 use Prim.Native.Nat.{ℕ, _+_, _-_, _^_, _≤_, _<_}
 use lib.ListN.{length, take, getD}
 use Rattle.std.specs.declared.option.Option.{Option}
+use Rattle.std.specs.declared.option.Option.the-variants.{Some, None}
 use Rattle.demand.specs.Demand.{Demand}
 use Rattle.analysis.specs.declared.Answer.{Answer}
 use Rattle.analysis.specs.declared.answers.Answers.{Answers}
@@ -15,8 +16,8 @@ use Rattle.analysis.specs.declared.Higher.{Higher}
 use Rattle.analysis.specs.declared.Rank.{Rank}
 use Rattle.analysis.specs.declared.Task.{Task}
 use Rattle.analysis.specs.Candidates.{candidate, demand-of, need-with}
-use Rattle.analysis.specs.Plans.{Least-cover, Bounds, First-late, No-plan, Best-plan}
-use Rattle.analysis.specs.Ranks.{Claim, Load, at, ranked, loads, system}
+use Rattle.analysis.specs.Plans.{Least-cover, No-cover, Bounds, First-late, No-plan, Best-plan}
+use Rattle.analysis.specs.Ranks.{Claim, Load, at, ranked, loads, system, system-of}
 
 module _ {K : Type 0} (demand : K → Demand) (places : List (Option (Task K))) (newcomer : Option (Task K)) where
   -- the demand of the task at a rank's place
@@ -31,6 +32,12 @@ module _ {K : Type 0} (demand : K → Demand) (places : List (Option (Task K))) 
     pub place : h .place ≡ r .place
     pub wait : h .wait ≡ r .row .suspension + blocked
     pub jitter : h .jitter ≡ a .bound - demand-at r .least
+
+  -- what is answered for one rank: as above, or none where no window covers
+  abbrev pub Rank-judged : List Higher → Rank → ℕ → Option (Answer × Higher) → Type 0
+  Rank-judged higher r blocked None =
+      No-cover (need-with demand places newcomer higher (demand-at r .own + (r .row .suspension + blocked))) (r .row .deadline) (2 ^ length higher)
+  Rank-judged higher r blocked (Some p) = Rank-answered higher r blocked (p .0) (p .1)
 
 -- what stands behind the last answer
 abbrev pub no-answer : Answer
@@ -64,13 +71,18 @@ Late-row ls n = (k : ℕ) × First-late (system ls) k × (n ≡ at ls k .claim .
 pub record In-time (cs : List Claim) (answers : List Answer) : Type 0 where
   pub few : length cs ≤ 12
   pub answered : Answered (loads (ranked cs)) answers
-  pub best-plan : Best-plan (system (loads (ranked cs))) (bounds-of answers) (vectors-of answers)
+  pub best-plan : Best-plan (system-of cs) (bounds-of answers) (vectors-of answers)
 
 -- Some row is late, n is the first of them, and no plan brings all in time.
 pub record Some-late (cs : List Claim) (n : ℕ) : Type 0 where
   pub few : length cs ≤ 12
   pub first : Late-row (loads (ranked cs)) n
-  pub no-plan : No-plan (system (loads (ranked cs)))
+  pub no-plan : No-plan (system-of cs)
+
+-- what is answered for ranked rows
+abbrev pub Ranks-judged : List Claim → Result Answers ℕ → Type 0
+Ranks-judged cs (Ok a) = Answered (loads cs) (answers-of a)
+Ranks-judged cs (Err n) = Late-row (loads cs) n
 
 -- what the judgement of these rows is
 abbrev pub Judged : List Claim → Result Answers JudgeRefusal → Type 0

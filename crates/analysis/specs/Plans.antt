@@ -1,6 +1,7 @@
 -- Bounds, vectors and plans, over what each rank needs. Assumes nothing.
-use mathlib.Core.Path.{_≡_}
 use Prim.Native.Nat.{ℕ, _≤_, _<_}
+use Rattle.std.specs.declared.option.Option.{Option}
+use Rattle.std.specs.declared.option.Option.the-variants.{Some, None}
 
 -- window t, from 1 to the deadline, covers what is needed by it under vector v
 pub record Covers (need : ℕ → ℕ → ℕ) (deadline vectors v t : ℕ) : Type 0 where
@@ -18,6 +19,11 @@ pub record Least-cover (need : ℕ → ℕ → ℕ) (deadline vectors t v : ℕ)
 -- no window covers under any vector
 abbrev pub No-cover : (ℕ → ℕ → ℕ) → ℕ → ℕ → Type 0
 No-cover need deadline vectors = (v t : ℕ) → Covers need deadline vectors v t → ⊥
+
+-- the answer of a search: the least window with the smallest vector at it, or none where no window covers
+abbrev pub Searched : (ℕ → ℕ → ℕ) → ℕ → ℕ → Option (ℕ × ℕ) → Type 0
+Searched need deadline vectors None = No-cover need deadline vectors
+Searched need deadline vectors (Some p) = Least-cover need deadline vectors (p .0) (p .1)
 
 -- Ranks count from 0, the highest. `need k R v t` is what rank k needs by window t under vector v, with the bounds R above it.
 pub record System : Type 0 where

@@ -3,13 +3,11 @@ ghost use Prim.Native.Nat.{ℕ, _+_, _^_, _<_, _≤_};
 ghost use mathlib.Core.Path.{_≡_};
 ghost use mathlib.Core.List.{map};
 ghost use lib.ListN.{length};
-ghost use Rattle.std.specs.Results.{Cases};
-ghost use Rattle.std.specs.Options.{Cases as BySome};
 ghost use Rattle.demand.specs.Demand.{Demand};
-ghost use Rattle.analysis.specs.Candidates.{candidate, demand-of, need-with, claim-of, claims};
-ghost use Rattle.analysis.specs.Judge.{Rank-answered, Answered, answers-of, Late-row, Judged};
-ghost use Rattle.analysis.specs.Plans.{Least-cover, No-cover, Late-exactly-when-no-plan};
-ghost use Rattle.analysis.specs.Ranks.{ranked, loads, system, Highest-first};
+ghost use Rattle.analysis.specs.Candidates.{claim-of, claims};
+ghost use Rattle.analysis.specs.Judge.{Rank-judged, Ranks-judged, Judged};
+ghost use Rattle.analysis.specs.Plans.{Late-exactly-when-no-plan};
+ghost use Rattle.analysis.specs.Ranks.{ranked, system-of, Highest-first};
 ghost use Rattle.analysis.specs.Removal.{Removal-keeps-in-time};
 use super::Answer;
 use super::Higher;
@@ -46,7 +44,7 @@ fn judge_rank<K: Kind>(
 ) -> Option<(Answer, Higher)>
     requires few { ⌜ length (now higher) ≤ 31 ⌝ }
     requires fits { ⌜ blocking + 2 ^ 32 ≤ 2 ^ 64 ⌝ }
-    ensures { λ r. ⌜ BySome r (No-cover (need-with demand (now (places .entry)) (now (newcomer .entry)) (now (higher .entry)) (demand-of demand (candidate (now (places .entry)) (now (newcomer .entry)) (rank .place)) .own + (rank .row .suspension + blocking))) (rank .row .deadline) (2 ^ length (now (higher .entry)))) (λ p. Rank-answered demand (now (places .entry)) (now (newcomer .entry)) (now (higher .entry)) rank blocking (p .0) (p .1)) ⌝ }
+    ensures { λ r. ⌜ Rank-judged demand (now (places .entry)) (now (newcomer .entry)) (now (higher .entry)) rank blocking r ⌝ }
 {
     let wait = u64::from(rank.row.suspension) + blocking;
     let (own, least) = jobs_at(places, newcomer, rank.place);
@@ -73,7 +71,7 @@ fn judge_ranked<K: Kind>(
     ranks: &[Rank],
 ) -> Result<Answers, u32>
     requires { ⌜ length (now ranks) ≤ 12 ⌝ }
-    ensures { λ r. ⌜ Cases r (λ a. Answered (loads (map (claim-of demand (now (places .entry)) (now (newcomer .entry))) (now (ranks .entry)))) (answers-of a)) (λ n. Late-row (loads (map (claim-of demand (now (places .entry)) (now (newcomer .entry))) (now (ranks .entry)))) n) ⌝ }
+    ensures { λ r. ⌜ Ranks-judged (map (claim-of demand (now (places .entry)) (now (newcomer .entry))) (now (ranks .entry))) r ⌝ }
 {
     let ceilings = ceilings_of(ranks);
     let mut rows = [NO_ANSWER; 12];
@@ -106,7 +104,7 @@ pub fn judge<K: Kind>(
     newcomer: &Option<Task<K>>,
 ) -> Result<Answers, JudgeRefusal>
     ensures judged { λ r. ⌜ Judged (claims demand (now (places .entry)) (now (newcomer .entry))) r ⌝ }
-    ensures late_exactly_when_no_plan { λ _. ⌜ Late-exactly-when-no-plan (system (loads (ranked (claims demand (now (places .entry)) (now (newcomer .entry)))))) ⌝ }
+    ensures late_exactly_when_no_plan { λ _. ⌜ Late-exactly-when-no-plan (system-of (claims demand (now (places .entry)) (now (newcomer .entry)))) ⌝ }
     ensures removal_keeps_in_time { λ _. ⌜ Removal-keeps-in-time (ranked (claims demand (now (places .entry)) (now (newcomer .entry)))) ⌝ }
     ensures highest_first { λ _. ⌜ Highest-first (claims demand (now (places .entry)) (now (newcomer .entry))) (ranked (claims demand (now (places .entry)) (now (newcomer .entry)))) ⌝ }
 {

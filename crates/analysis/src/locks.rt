@@ -71,6 +71,14 @@ fn longest_section(ceilings: &[Option<u32>; 8], priority: u32, row: &Row) -> u32
     longest
 }
 
+// A job can be blocked when it starts, and again each time that it comes back from a suspension.
+fn total_blocking(row: &Row, longest: u32) -> u64
+    ensures bound { λ r. ⌜ r + 2 ^ 32 ≤ 2 ^ 64 ⌝ }
+    ensures value { λ r. ⌜ r ≡ (now (row .entry) .suspensions + 1) * longest ⌝ }
+{
+    (u64::from(row.suspensions) + 1) * u64::from(longest)
+}
+
 // How long the row can be blocked by those below it.
 pub(crate) fn blocking_of(ceilings: &[Option<u32>; 8], row: &Row, lower: &[Rank]) -> u64
     ensures bound { λ r. ⌜ r + 2 ^ 32 ≤ 2 ^ 64 ⌝ }
@@ -80,5 +88,5 @@ pub(crate) fn blocking_of(ceilings: &[Option<u32>; 8], row: &Row, lower: &[Rank]
     for i in (0..lower.len()).rev() {
         longest = longest_section(ceilings, row.priority, &lower[i].row).max(longest);
     }
-    (u64::from(row.suspensions) + 1) * u64::from(longest)
+    total_blocking(row, longest)
 }

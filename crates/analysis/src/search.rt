@@ -1,10 +1,9 @@
 // The search for a row's bound and vector.
 ghost use Prim.Native.Nat.{ℕ, _^_, _≤_};
 ghost use lib.ListN.{length};
-ghost use Rattle.std.specs.Options.{Cases as BySome};
 ghost use Rattle.demand.specs.Demand.{Demand};
 ghost use Rattle.analysis.specs.Candidates.{need-with};
-ghost use Rattle.analysis.specs.Plans.{Least-cover, No-cover};
+ghost use Rattle.analysis.specs.Plans.{Searched};
 use super::Higher;
 use super::Task;
 use super::cover::need_by;
@@ -21,7 +20,7 @@ pub(crate) fn search<K: Kind>(
     deadline: u32,
 ) -> Option<(u32, u32)>
     requires { ⌜ length (now higher) ≤ 31 ⌝ }
-    ensures { λ r. ⌜ BySome r (No-cover (need-with demand (now (places .entry)) (now (newcomer .entry)) (now (higher .entry)) alone) deadline (2 ^ length (now (higher .entry)))) (λ p. Least-cover (need-with demand (now (places .entry)) (now (newcomer .entry)) (now (higher .entry)) alone) deadline (2 ^ length (now (higher .entry))) (p .0) (p .1)) ⌝ }
+    ensures { λ r. ⌜ Searched (need-with demand (now (places .entry)) (now (newcomer .entry)) (now (higher .entry)) alone) deadline (2 ^ length (now (higher .entry))) r ⌝ }
 {
     let vectors = 1u32 << higher.len();
     let mut window = 1u64;
