@@ -16,3 +16,4 @@ pub mod Order
 pub mod Verdicts
 pub mod Tested
 pub mod Garage
+pub mod AnyOrder

@@ -7,7 +7,7 @@ ghost use Rattle.demand.specs.Demand.{Demand};
 ghost use Rattle.analysis.specs.Candidates.{claim-of, claims};
 ghost use Rattle.analysis.specs.Judge.{Rank-judged, Ranks-judged, Judged};
 ghost use Rattle.analysis.specs.Plans.{Late-exactly-when-no-plan};
-ghost use Rattle.analysis.specs.Ranks.{ranked, system-of, Highest-first};
+ghost use Rattle.analysis.specs.Ranks.{ranked, system-of, Any-order, Highest-first};
 ghost use Rattle.analysis.specs.Removal.{Removal-keeps-in-time};
 use super::Answer;
 use super::Higher;
@@ -106,6 +106,7 @@ pub fn judge<K: Kind>(
     ensures judged { λ r. ⌜ Judged (claims demand (now (places .entry)) (now (newcomer .entry))) r ⌝ }
     ensures late_exactly_when_no_plan { λ _. ⌜ Late-exactly-when-no-plan (system-of (claims demand (now (places .entry)) (now (newcomer .entry)))) ⌝ }
     ensures removal_keeps_in_time { λ _. ⌜ Removal-keeps-in-time (ranked (claims demand (now (places .entry)) (now (newcomer .entry)))) ⌝ }
+    ensures any_order { λ _. ⌜ Any-order (claims demand (now (places .entry)) (now (newcomer .entry))) ⌝ }
     ensures highest_first { λ _. ⌜ Highest-first (claims demand (now (places .entry)) (now (newcomer .entry))) (ranked (claims demand (now (places .entry)) (now (newcomer .entry)))) ⌝ }
 {
     let Some(ranking) = rank_all(places, newcomer) else {

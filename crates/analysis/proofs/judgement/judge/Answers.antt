@@ -1,3 +1,4 @@
+use Rattle.analysis.proofs.AnyOrder.{any-order}
 use Rattle.analysis.proofs.Order.{highest-first}
 use Rattle.analysis.proofs.Verdicts as verdicts
 use Rattle.analysis.proofs.judgement.judge.Needs as need
@@ -9,6 +10,7 @@ returns-in-rest g c =
       judged = c .in-rest .ensures tt;
       late-exactly-when-no-plan = verdicts.late-exactly-when-no-plan (g .K·Kind .demand) (g .K·Kind·met .lawful) (c .args .places .now) newcomer;
       removal-keeps-in-time = verdicts.removal (g .K·Kind .demand) (g .K·Kind·met .lawful) (c .args .places .now) newcomer;
+      any-order = any-order _;
       highest-first = highest-first _;
     }
 
@@ -19,6 +21,7 @@ returns-in-Ok g c =
       judged = verdicts.in-time (g .K·Kind .demand) (g .K·Kind·met .lawful) (c .args .places .now) newcomer (c .in-Some .ranking) (c .in-Some .ensures tt) _ (c .in-Ok .ensures tt);
       late-exactly-when-no-plan = verdicts.late-exactly-when-no-plan (g .K·Kind .demand) (g .K·Kind·met .lawful) (c .args .places .now) newcomer;
       removal-keeps-in-time = verdicts.removal (g .K·Kind .demand) (g .K·Kind·met .lawful) (c .args .places .now) newcomer;
+      any-order = any-order _;
       highest-first = highest-first _;
     }
 
@@ -29,5 +32,6 @@ returns-in-Err g c =
       judged = verdicts.some-late (g .K·Kind .demand) (g .K·Kind·met .lawful) (c .args .places .now) newcomer (c .in-Some .ranking) (c .in-Some .ensures tt) (c .in-Err .number) (c .in-Err .ensures tt);
       late-exactly-when-no-plan = verdicts.late-exactly-when-no-plan (g .K·Kind .demand) (g .K·Kind·met .lawful) (c .args .places .now) newcomer;
       removal-keeps-in-time = verdicts.removal (g .K·Kind .demand) (g .K·Kind·met .lawful) (c .args .places .now) newcomer;
+      any-order = any-order _;
       highest-first = highest-first _;
     }
