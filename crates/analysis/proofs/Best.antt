@@ -1,11 +1,8 @@
 -- The bounds found form the best plan, and a row is late only where no plan brings all in time. Assumes nothing.
-use mathlib.Core.Logic.{_⊎_, inl, inr}
-use Prim.Native.Nat.{ℕ, zero, suc, _+_, _≤_, _<_}
+use Prim.Native.Nat.{ℕ, zero, suc, _≤_, _<_}
 use native.Mathlib.Omega.{arith}
 use native.Mathlib.Nat.{le-trans}
-use native.Mathlib.Decide.{decLe, decLt}
-use Rattle.analysis.specs.Plans.{System, Window, Bound, Bounds, Fixed, Plan-gives, No-plan, First-late, Best-plan, Late-exactly-when-no-plan}
-use Rattle.analysis.proofs.Least.{Least, least-of, decide-below}
+use Rattle.analysis.specs.Plans.{System, Window, Bounds, Plan-gives, No-plan, First-late, Best-plan, Late-exactly-when-no-plan}
 
 -- what a rank needs never falls when the bounds above it grow
 abbrev pub Grows : System → Type 0

@@ -1,10 +1,10 @@
 -- Fewer rows above, with less waits, jitter and work, do less. Assumes nothing.
-use mathlib.Core.Path.{_≡_, refl}
+use mathlib.Core.Path.{_≡_}
 use mathlib.Core.Bool.{Bool, true, false, cond}
 use mathlib.Core.List.{List, [], _∷_}
-use Prim.Native.Nat.{ℕ, zero, suc, _+_, _/_, _%_, _≤_, _<_, min}
+use Prim.Native.Nat.{ℕ, _/_, _%_, _≤_}
 use native.Mathlib.Omega.{arith}
-use Rattle.demand.specs.Demand.{widest, window}
+use Rattle.demand.specs.Demand.{widest}
 use Rattle.analysis.specs.Cover.{Above, chosen, waits, stretched, interference}
 
 -- x does no more than y

@@ -3,7 +3,7 @@ use mathlib.Core.Path.{refl}
 use Prim.Native.Nat.{ℕ, zero, suc, _<_}
 use native.Mathlib.Omega.{arith}
 use Rattle.analysis.specs.Figures.{Garage-figures, garage-loads, garage-bounds, garage-vectors}
-use Rattle.analysis.specs.Plans.{Bounds, Bound}
+use Rattle.analysis.specs.Plans.{Bound}
 use Rattle.analysis.specs.Ranks.{system}
 use Rattle.analysis.proofs.Tested.{bound-by, fixed-by}
 

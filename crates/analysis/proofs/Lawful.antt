@@ -1,15 +1,14 @@
--- What rows of lawful kinds need never falls when the bounds above grow, nor when the window grows. Assumes nothing.
-use mathlib.Core.Path.{_≡_, refl}
+-- What rows of lawful kinds need never falls when the bounds above grow. Assumes nothing.
+use mathlib.Core.Path.{refl}
 use mathlib.Core.List.{List, [], _∷_}
-use Prim.Native.Nat.{ℕ, zero, suc, _+_, _-_, _≤_, _<_}
+use Prim.Native.Nat.{ℕ, zero, suc, _≤_, _<_}
 use native.Mathlib.Omega.{arith}
 use lib.ListN.{take}
 use Rattle.demand.specs.Demand.{Lawful}
-use Rattle.analysis.specs.Cover.{Above, interference}
+use Rattle.analysis.specs.Cover.{interference}
 use Rattle.analysis.specs.Ranks.{Claim, Load, wait, aboves, loads-of, system}
-use Rattle.analysis.specs.Locks
 use Rattle.analysis.specs.declared.Row.{Row}
-use Rattle.analysis.proofs.Easier.{Milder, Easier, none, keep, leave, interference-easier}
+use Rattle.analysis.proofs.Easier.{Easier, none, keep, interference-easier}
 use Rattle.analysis.proofs.Best.{Grows}
 
 -- each of these rows has a lawful kind
@@ -37,10 +36,4 @@ same-rows (l ∷ ls) h (suc k) R Q le v =
 pub grows : (ls : List Load) → Lawful-loads ls → Grows (system ls)
 grows ls h k R Q v t le =
     let more : interference (take k (aboves ls R)) v t ≤ interference (take k (aboves ls Q)) v t = interference-easier t t (omega arith) (same-rows ls h k R Q le v) in
-    omega arith
-
--- what a rank needs never falls when the window grows
-pub need-never-falls : (ls : List Load) → Lawful-loads ls → (k : ℕ) (R : ℕ → ℕ) (v q t : ℕ) → q ≤ t → system ls .need k R v q ≤ system ls .need k R v t
-need-never-falls ls h k R v q t le =
-    let more : interference (take k (aboves ls R)) v q ≤ interference (take k (aboves ls R)) v t = interference-easier q t le (same-rows ls h k R R (λ i m. omega arith) v) in
     omega arith

@@ -5,12 +5,12 @@ use Prim.Native.Nat.{ℕ, zero, suc, _+_, _-_, _*_, _/_, _%_, _^_, _≤_, _<_}
 use native.Mathlib.Omega.{arith}
 use native.Mathlib.Nat.{pow-suc, mul-comm, not-suc-le-zero}
 use Rattle.demand.specs.Demand.{Lawful}
-use lib.ListN.{length, take, getD}
+use lib.ListN.{length, take}
 use Rattle.analysis.specs.declared.Row.{Row}
-use Rattle.analysis.specs.Cover.{Above, interference}
-use Rattle.analysis.specs.Plans.{Window, Bound, Bounds}
+use Rattle.analysis.specs.Cover.{interference}
+use Rattle.analysis.specs.Plans.{Window, Bounds}
 use Rattle.analysis.specs.Ranks.{Claim, Load, wait, aboves, at, rows, loads-of, loads, system}
-use Rattle.analysis.specs.Removal.{Some-of, none, keep, leave, rank-of, In-time-still, Removal-keeps-in-time}
+use Rattle.analysis.specs.Removal.{Some-of, none, keep, leave, rank-of, Removal-keeps-in-time}
 use Rattle.analysis.proofs.Blocked.{Lighter, lighter, lighter-rank}
 use Rattle.analysis.proofs.Easier as easier
 use Rattle.analysis.proofs.Easier.{Easier, Milder, interference-easier}

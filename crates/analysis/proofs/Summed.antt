@@ -1,11 +1,11 @@
 -- The covering sum, added up from the row just above to the highest. Assumes nothing.
-use mathlib.Core.Path.{_≡_, refl, sym, ap, subst, _∙_}
-use mathlib.Core.Bool.{Bool, true, false, cond}
-use mathlib.Core.List.{List, [], _∷_}
-use Prim.Native.Nat.{ℕ, _+_, _-_, _*_, _/_, _%_, _^_, _≤_, _<_, min}
+use mathlib.Core.Path.{_≡_, ap, _∙_}
+use mathlib.Core.Bool.{cond}
+use mathlib.Core.List.{List, _∷_}
+use Prim.Native.Nat.{ℕ, _+_, _-_, _/_, _^_, _<_, min}
 use native.Mathlib.Omega.{arith}
 use Rattle.std.proofs.shelf.Bits.{shr-shr}
-use Rattle.demand.specs.Demand.{window, widest}
+use Rattle.demand.specs.Demand.{window}
 use Rattle.analysis.specs.Cover.{Above, chosen, waits, stretched, interference}
 
 -- what a u64 holds of a sum

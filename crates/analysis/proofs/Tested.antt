@@ -1,13 +1,13 @@
 -- Bounds at small numbers, by tests that antt computes. Assumes nothing.
-use mathlib.Core.Path.{_≡_, sym, subst}
+use mathlib.Core.Path.{sym, subst}
 use mathlib.Core.Bool.{Bool, true, false}
-use Prim.Native.Nat.{ℕ, zero, suc, _≤_, _<_, zero-le}
+use Prim.Native.Nat.{ℕ, zero, suc, _<_, zero-le}
 use native.Mathlib.Omega.{arith}
 use native.Mathlib.Nat.{not-suc-le-zero}
 use native.Mathlib.Decide.{ℕ-discrete, decLe}
 use lib.Dec.{T, leb, ltb, leb→le, ltb→lt}
-use Rattle.analysis.specs.Plans.{System, Covers, Least-cover, Bound, Fixed}
-use Rattle.analysis.proofs.Jumps.{None-before, None-among, covered}
+use Rattle.analysis.specs.Plans.{System, Bound, Fixed}
+use Rattle.analysis.proofs.Jumps.{None-before, covered}
 
 abbrev both : Bool → Bool → Bool
 both true b = b

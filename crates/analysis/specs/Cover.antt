@@ -11,7 +11,7 @@ pub record Above : Type 0 where
   pub jitter : ℕ
   pub work : ℕ → ℕ
 
--- A vector gives 0 or 1 to each higher row. As a number it has its lowest bit for the highest row.
+-- A vector has a bit for each higher row, the lowest bit for the highest row. This is the bit of the first of these rows.
 abbrev pub chosen : ℕ → Bool
 chosen v = eqb (v % 2) 1
 

@@ -4,7 +4,6 @@ use mathlib.Core.List.{List, [], _∷_, map}
 use Prim.Native.Nat.{ℕ}
 use lib.ListN.{getD}
 use Rattle.demand.specs.Basic.{every}
-use Rattle.analysis.specs.declared.Row.{Row}
 use Rattle.analysis.specs.Plans.{Bounds, Fixed}
 use Rattle.analysis.specs.Ranks.{Claim, Load, ranked, loads, system}
 

@@ -1,5 +1,5 @@
 -- Locks: ceilings under the Stack Resource Policy, and how long a row can be blocked. Assumes nothing.
-use mathlib.Core.Bool.{Bool, true, false, cond}
+use mathlib.Core.Bool.{Bool, false, cond}
 use mathlib.Core.List.{List, [], _∷_}
 use Prim.Native.Nat.{ℕ, zero, suc, _+_, _*_, max}
 use lib.Dec.{eqb, leb}
@@ -17,7 +17,7 @@ abbrev pub raised : ℕ → Option ℕ → ℕ
 raised p None = p
 raised p (Some q) = max p q
 
--- The ceiling of a lock is the greatest priority among the rows that use it; a lock that no row uses has none.
+-- A ceiling is the highest priority of any row with a section on the lock, and none where there is no such row.
 abbrev pub ceiling : List Row → ℕ → Option ℕ
 ceiling [] lock = None
 ceiling (r ∷ rs) lock = cond (eqb (section r lock) 0) (ceiling rs lock) (Some (raised (r .priority) (ceiling rs lock)))

@@ -25,7 +25,7 @@ abbrev pub Searched : (ℕ → ℕ → ℕ) → ℕ → ℕ → Option (ℕ × �
 Searched need deadline vectors None = No-cover need deadline vectors
 Searched need deadline vectors (Some p) = Least-cover need deadline vectors (p .0) (p .1)
 
--- Ranks count from 0, the highest. `need k R v t` is what rank k needs by window t under vector v, with the bounds R above it.
+-- Rank 0 is the highest. `need k R v t` is the time that rank k asks for within window t, under vector v and the bounds R.
 pub record System : Type 0 where
   pub ranks : ℕ
   pub deadline : ℕ → ℕ
@@ -49,12 +49,12 @@ pub record Fixed (s : System) (R : ℕ → ℕ) (k v t : ℕ) : Type 0 where
   pub covers : Window s R k v t
   pub least : (u : ℕ) → Window s R k v u → t ≤ u
 
--- The plan that fixes vector V k for each rank k brings all rows in time, with the bounds R: worked out from the top
--- down, each with the plan's own bounds above it.
+-- Under the plan that chooses vector V k for rank k all rows are in time, with the bounds R. A bound is the least window
+-- under the chosen vector, where the ranks above have the bounds of this same plan.
 abbrev pub Plan-gives : System → (ℕ → ℕ) → (ℕ → ℕ) → Type 0
 Plan-gives s V R = (k : ℕ) → k < s .ranks → Fixed s R k (V k) (R k)
 
--- no plan brings all rows in time
+-- under every plan some row is not in time
 abbrev pub No-plan : System → Type 0
 No-plan s = (V R : ℕ → ℕ) → Plan-gives s V R → ⊥
 
@@ -66,12 +66,12 @@ pub record First-late (s : System) (k : ℕ) : Type 0 where
   pub above : Bounds s k R V
   pub none : No-cover (s .need k R) (s .deadline k) (s .vectors k)
 
--- V is a plan that gives the bounds R, and every plan that brings all rows in time gives each row at least as much
+-- V is a plan with the bounds R, and no plan under which all rows are in time has a smaller bound for any row
 pub record Best-plan (s : System) (R V : ℕ → ℕ) : Type 0 where
   pub plan : Plan-gives s V R
   pub best : (W Q : ℕ → ℕ) → Plan-gives s W Q → (k : ℕ) → k < s .ranks → R k ≤ Q k
 
--- some row is late exactly when no plan brings all rows in time
+-- there is a late row if, and only if, there is no plan under which all rows are in time
 pub record Late-exactly-when-no-plan (s : System) : Type 0 where
   pub late-no-plan : (k : ℕ) → First-late s k → No-plan s
   pub no-plan-late : No-plan s → (k : ℕ) × First-late s k

@@ -1,9 +1,7 @@
 // The tasks that are judged together: those at the places that have one, and perhaps a newcomer. The newcomer's place is the one
 // behind the last.
-ghost use Prim.Native.Nat.{ℕ, _+_, _<_, _≤_};
+ghost use Prim.Native.Nat.{_<_};
 ghost use mathlib.Core.Path.{_≡_};
-ghost use lib.ListN.{length, getD};
-ghost use Rattle.demand.specs.Demand.{Demand};
 ghost use Rattle.analysis.specs.Candidates.{candidate, demand-of};
 use super::Task;
 use demand::Kind;

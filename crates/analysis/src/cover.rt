@@ -1,9 +1,9 @@
 // What a row needs by a window, under a vector. Sums beyond u64 count as its largest number.
-ghost use Prim.Native.Nat.{ℕ, _+_, _-_, _*_, _/_, _%_, _^_, _<_, _≤_, min};
+ghost use Prim.Native.Nat.{_+_, _-_, _%_, _^_, _≤_, min};
 ghost use mathlib.Core.Bool.{cond};
 ghost use mathlib.Core.Path.{_≡_};
 ghost use lib.ListN.{length};
-ghost use Rattle.demand.specs.Demand.{Demand, window as clipped};
+ghost use Rattle.demand.specs.Demand.{window as clipped};
 ghost use Rattle.analysis.specs.Candidates.{candidate, demand-of, need-with};
 use super::Higher;
 use super::Task;

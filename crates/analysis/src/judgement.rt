@@ -1,9 +1,7 @@
 // Whether a set of tasks meets its deadlines.
-ghost use Prim.Native.Nat.{ℕ, _+_, _^_, _<_, _≤_};
-ghost use mathlib.Core.Path.{_≡_};
+ghost use Prim.Native.Nat.{_+_, _^_, _≤_};
 ghost use mathlib.Core.List.{map};
 ghost use lib.ListN.{length};
-ghost use Rattle.demand.specs.Demand.{Demand};
 ghost use Rattle.analysis.specs.Candidates.{claim-of, claims};
 ghost use Rattle.analysis.specs.Judge.{Rank-judged, Ranks-judged, Judged};
 ghost use Rattle.analysis.specs.Plans.{Late-exactly-when-no-plan};

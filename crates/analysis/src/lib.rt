@@ -38,7 +38,7 @@ pub struct Row {
 }
 
 // A row with its kind of demand.
-#[derive(Clone, Copy)]
+#[derive(Clone, Copy, Drop)]
 pub struct Task<K> {
     pub row: Row,
     pub kind: K,

@@ -1,7 +1,6 @@
 // The search for a row's bound and vector.
-ghost use Prim.Native.Nat.{ℕ, _^_, _≤_};
+ghost use Prim.Native.Nat.{_^_, _≤_};
 ghost use lib.ListN.{length};
-ghost use Rattle.demand.specs.Demand.{Demand};
 ghost use Rattle.analysis.specs.Candidates.{need-with};
 ghost use Rattle.analysis.specs.Plans.{Searched};
 use super::Higher;

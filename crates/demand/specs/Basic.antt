@@ -57,7 +57,7 @@ largest-total c h m n = largest-before c h m n m
 abbrev pub from-heavy : ℕ → ℕ → ℕ → ℕ → ℕ
 from-heavy c h m n = n * c + divided-up n m * (h - c)
 
--- one of each m consecutive jobs takes H, the others C, and jobs are T apart
+-- in every stretch of m jobs there is one of length H among jobs of length C, and jobs are T apart
 abbrev pub one-heavy : ℕ → ℕ → ℕ → ℕ → Demand
 one-heavy c h m t = record {
   spacing = t;

@@ -25,14 +25,15 @@ within low high n = min (max n low) high
 abbrev pub divided-up : ℕ → ℕ → ℕ
 divided-up n d = (n + (d - 1)) / d
 
--- How much processor time the jobs of one task can need: the least time from one job to the next,
--- the longest job, the shortest job, and the most work of the jobs in a window.
+-- What the jobs of a task can ask of the processor: the least time from one job to the next, the longest job,
+-- the shortest job, and the most work that falls into a window.
 pub record Demand : Type 0 where
   pub spacing : ℕ
   pub own : ℕ
   pub least : ℕ
   pub work : ℕ → ℕ
 
+-- what holds of every kind; windows beyond the largest are never asked about
 pub record Lawful (d : Demand) : Type 0 where
   pub least-positive : 1 ≤ d .least
   pub least-within-own : d .least ≤ d .own

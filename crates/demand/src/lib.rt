@@ -1,4 +1,4 @@
-// Kinds of demand: how much processor time the jobs of one task can need.
+// Kinds of demand: what the jobs of a task can ask of the processor.
 ghost use Prim.Native.Nat.{ℕ, _<_, _≤_};
 ghost use mathlib.Core.Bool.{not, true};
 ghost use mathlib.Core.Path.{_≡_};
@@ -31,7 +31,7 @@ pub const CAP: u32 = 2_000_000;
 // The longest job and the longest spacing that can be given.
 const LONGEST: u32 = 1_000_000;
 
-// A kind of demand. Its meaning is fixed by its value; asking changes nothing and refuses nothing.
+// A kind of demand. What it answers depends on its value alone, and each question has an answer.
 pub trait Kind {
     ghost demand: { Self → Demand };
 

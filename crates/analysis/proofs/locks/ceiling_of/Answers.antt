@@ -1,4 +1,4 @@
-use mathlib.Core.Path.{_≡_, sym, ap, _∙_}
+use mathlib.Core.Path.{sym, ap}
 use Rattle.std.proofs.shelf.Lists.{drop-all}
 use native.Mathlib.Omega.{arith}
 use Rattle.analysis.specs.Locks.{ceiling}

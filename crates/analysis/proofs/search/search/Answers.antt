@@ -1,9 +1,9 @@
-use Prim.Native.Nat.{ℕ, _+_, _*_, _%_, _^_, _≤_, _<_}
+use Prim.Native.Nat.{ℕ, _^_, _≤_}
 use native.Mathlib.Omega.{arith}
 use lib.ListN.{length}
 use Rattle.std.proofs.shelf.Bits.{one-shl}
 use Rattle.analysis.specs.Candidates.{need-with}
-use Rattle.analysis.proofs.Jumps.{None-before, None-among, jump, covered, uncovered}
+use Rattle.analysis.proofs.Jumps.{None-among, jump, covered, uncovered}
 use Rattle.analysis.proofs.Rising.{need-rises}
 use Rattle.analysis.proofs.search.search.Needs as need
 
