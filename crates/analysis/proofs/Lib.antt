@@ -4,6 +4,7 @@ pub mod Easier
 pub mod Lawful
 pub mod Blocked
 pub mod Settled
+pub mod SomeRanked
 pub mod Removal
 pub mod Back
 pub mod Summed

@@ -9,12 +9,14 @@ use lib.ListN.{length, take}
 use Rattle.analysis.specs.declared.Row.{Row}
 use Rattle.analysis.specs.Cover.{interference}
 use Rattle.analysis.specs.Plans.{Window, Bounds}
-use Rattle.analysis.specs.Ranks.{Claim, Load, wait, aboves, at, rows, loads-of, loads, system}
+use Rattle.analysis.specs.Ranks.{Claim, Load, wait, aboves, at, rows, loads-of, loads, ranked, system, system-of}
 use Rattle.analysis.specs.Removal.{Some-of, none, keep, leave, rank-of, Removal-keeps-in-time}
 use Rattle.analysis.proofs.Blocked.{Lighter, lighter, lighter-rank}
 use Rattle.analysis.proofs.Easier as easier
 use Rattle.analysis.proofs.Easier.{Easier, Milder, interference-easier}
 use Rattle.analysis.proofs.Lawful.{All-lawful, Lawful-loads, lawful-loads, grows}
+use Rattle.analysis.proofs.Ranked.{length-ranked}
+use Rattle.analysis.proofs.SomeRanked.{some-ranked}
 use Rattle.analysis.proofs.Settled.{No-larger-bound, bound-exists, put, bounds-more, no-larger-more}
 
 milder : (l m : Load) → Lighter l m → Lawful (m .claim .demand) → (q r : ℕ) → q ≤ r → Milder (record { wait = wait l; jitter = q - l .claim .demand .least; work = l .claim .demand .work }) (record { wait = wait m; jitter = r - m .claim .demand .least; work = m .claim .demand .work })
@@ -118,8 +120,15 @@ lawful-kept none h = tt
 lawful-kept (keep e s) h = (subst (λ (c : Claim). Lawful (c .demand)) (sym e) (h .0), lawful-kept s (h .1))
 lawful-kept (leave s) h = lawful-kept s (h .1)
 
-pub removal-keeps-in-time : (ys : List Claim) → All-lawful ys → Removal-keeps-in-time ys
-removal-keeps-in-time ys lawful R V bounds xs kept =
+-- the ranked rows xs, which are some of ys, are in time with bounds no larger
+record Ranked-still (xs ys : List Claim) (kept : Some-of _≡_ xs ys) (R : ℕ → ℕ) : Type 0 where
+  Q : ℕ → ℕ
+  W : ℕ → ℕ
+  bounds : Bounds (system (loads xs)) (length xs) Q W
+  no-larger : (k : ℕ) → k < length xs → Q k ≤ R (rank-of kept k)
+
+ranked-still : (ys : List Claim) → All-lawful ys → (R V : ℕ → ℕ) → Bounds (system (loads ys)) (length ys) R V → (xs : List Claim) (kept : Some-of _≡_ xs ys) → Ranked-still xs ys kept R
+ranked-still ys lawful R V bounds xs kept =
     record {
       Q = left .Q;
       W = left .W;
@@ -132,3 +141,17 @@ removal-keeps-in-time ys lawful R V bounds xs kept =
         all-left (lighter kept) (lawful-loads (rows xs) xs (lawful-kept kept lawful)) (lawful-loads (rows ys) ys lawful) R V
         (subst (λ (n : ℕ). Bounds (system (loads ys)) n R V) (sym (length-loads (rows ys) ys)) bounds)
         (length xs) (let e = length-loads (rows xs) xs in omega arith)
+
+pub removal-keeps-in-time : (all : List Claim) → All-lawful (ranked all) → Removal-keeps-in-time all
+removal-keeps-in-time all lawful R V bounds distinct rest some =
+    let kept : Some-of _≡_ (ranked rest) (ranked all) = some-ranked some distinct in
+    let same : length (ranked all) ≡ length all = length-ranked all in
+    let fewer : length (ranked rest) ≡ length rest = length-ranked rest in
+    let left = ranked-still (ranked all) lawful R V (subst (λ (n : ℕ). Bounds (system-of all) n R V) (sym same) bounds) (ranked rest) kept in
+    record {
+      kept = kept;
+      Q = left .Q;
+      W = left .W;
+      bounds = subst (λ (n : ℕ). Bounds (system-of rest) n (left .Q) (left .W)) fewer (left .bounds);
+      no-larger = λ k h. left .no-larger k (omega arith);
+    }

@@ -35,8 +35,8 @@ module _ {K : Type 0} (demand : K → Demand) (lawful : (k : K) → Lawful (dema
   pub late-exactly-when-no-plan : Late-exactly-when-no-plan (system (loads (ranked judged)))
   late-exactly-when-no-plan = settled.late-exactly-when-no-plan (system (loads (ranked judged))) needs-grow
 
-  pub removal : Removal-keeps-in-time (ranked judged)
-  removal = removal-keeps-in-time (ranked judged) all-lawful
+  pub removal : Removal-keeps-in-time judged
+  removal = removal-keeps-in-time judged all-lawful
 
   module _ (k : Ranking) (all : Ranks-all demand places newcomer k) where
     few : length judged ≤ 12

@@ -4,7 +4,7 @@ use mathlib.Core.List.{List, [], _∷_}
 use Prim.Native.Nat.{ℕ, zero, suc, _≤_, _<_}
 use lib.ListN.{length}
 use Rattle.analysis.specs.Plans.{Bounds}
-use Rattle.analysis.specs.Ranks.{Claim, loads, system}
+use Rattle.analysis.specs.Ranks.{Claim, ranked, system-of, Distinct-priorities}
 
 -- the list xs has some of the members of ys, in the same order, each as E says
 pub data Some-of {A B : Type 0} (E : A → B → Type 0) : List A → List B → Type 0 where
@@ -19,14 +19,16 @@ rank-of (keep e s) zero = zero
 rank-of (keep e s) (suc k) = suc (rank-of s k)
 rank-of (leave s) k = suc (rank-of s k)
 
--- the ranked rows xs are in time, and none of their bounds is larger than R was among the ranked rows ys
-pub record In-time-still (xs ys : List Claim) (kept : Some-of _≡_ xs ys) (R : ℕ → ℕ) : Type 0 where
+-- The rows `rest` are in time. Their ranking has them as they stood in that of the rows `all`, and none has a larger bound
+-- than R was there.
+pub record In-time-still (rest all : List Claim) (R : ℕ → ℕ) : Type 0 where
+  pub kept : Some-of _≡_ (ranked rest) (ranked all)
   pub Q : ℕ → ℕ
   pub W : ℕ → ℕ
-  pub bounds : Bounds (system (loads xs)) (length xs) Q W
-  pub no-larger : (k : ℕ) → k < length xs → Q k ≤ R (rank-of kept k)
+  pub bounds : Bounds (system-of rest) (length rest) Q W
+  pub no-larger : (k : ℕ) → k < length rest → Q k ≤ R (rank-of kept k)
 
--- taking rows out of ranked rows that are in time leaves the rest in time, with bounds no larger
+-- Where all rows are in time and no two share a priority, taking some out leaves the rest in time, with bounds no larger.
 abbrev pub Removal-keeps-in-time : List Claim → Type 0
-Removal-keeps-in-time ys =
-    (R V : ℕ → ℕ) → Bounds (system (loads ys)) (length ys) R V → (xs : List Claim) (kept : Some-of _≡_ xs ys) → In-time-still xs ys kept R
+Removal-keeps-in-time all =
+    (R V : ℕ → ℕ) → Bounds (system-of all) (length all) R V → Distinct-priorities all → (rest : List Claim) → Some-of _≡_ rest all → In-time-still rest all R

@@ -103,7 +103,7 @@ pub fn judge<K: Kind>(
 ) -> Result<Answers, JudgeRefusal>
     ensures judged { λ r. ⌜ Judged (claims demand (now (places .entry)) (now (newcomer .entry))) r ⌝ }
     ensures late_exactly_when_no_plan { λ _. ⌜ Late-exactly-when-no-plan (system-of (claims demand (now (places .entry)) (now (newcomer .entry)))) ⌝ }
-    ensures removal_keeps_in_time { λ _. ⌜ Removal-keeps-in-time (ranked (claims demand (now (places .entry)) (now (newcomer .entry)))) ⌝ }
+    ensures removal_keeps_in_time { λ _. ⌜ Removal-keeps-in-time (claims demand (now (places .entry)) (now (newcomer .entry))) ⌝ }
     ensures any_order { λ _. ⌜ Any-order (claims demand (now (places .entry)) (now (newcomer .entry))) ⌝ }
     ensures highest_first { λ _. ⌜ Highest-first (claims demand (now (places .entry)) (now (newcomer .entry))) (ranked (claims demand (now (places .entry)) (now (newcomer .entry)))) ⌝ }
 {
