@@ -6,8 +6,8 @@ use native.Mathlib.Omega.{arith}
 use native.Mathlib.Nat.{not-suc-le-zero}
 use native.Mathlib.Decide.{ℕ-discrete, decLe}
 use lib.Dec.{T, leb, ltb, leb→le, ltb→lt}
-use Rattle.analysis.specs.Plans.{System, Bound, Fixed}
-use Rattle.analysis.proofs.Jumps.{None-before, covered}
+use Rattle.analysis.specs.Plans.{System, Bound, Fixed, No-cover}
+use Rattle.analysis.proofs.Jumps.{None-before, covered, uncovered}
 
 abbrev both : Bool → Bool → Bool
 both true b = b
@@ -69,3 +69,8 @@ fixed-by s R k v t one limit small before c =
         | no h ↦ absurd (before-each (λ _ x. s .need k R v x) 1 t before 0 u (omega arith) (w .from-one) (omega arith) (w .covered))
       ];
     }
+
+-- no window covers a rank by its deadline
+pub late-by : (s : System) (R : ℕ → ℕ) (k : ℕ) → T (uncovered-before (s .need k R) (s .vectors k) (suc (s .deadline k))) → No-cover (s .need k R) (s .deadline k) (s .vectors k)
+late-by s R k before =
+    uncovered (s .need k R) (s .deadline k) (s .vectors k) (suc (s .deadline k)) (omega arith) (before-each (s .need k R) (s .vectors k) (suc (s .deadline k)) before)

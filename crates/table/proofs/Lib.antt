@@ -1,0 +1,16 @@
+pub mod Shared
+pub mod Found
+pub mod Lookups
+pub mod Changes
+pub mod Spending
+pub mod Judgements
+pub mod Parts
+pub mod Kept
+pub mod Unique
+pub mod Members
+pub mod Promise
+pub mod Beyond
+pub mod Refusals
+pub mod Holding
+pub mod Worked
+pub mod AfterRun

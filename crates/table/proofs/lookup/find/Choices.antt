@@ -1,0 +1,10 @@
+use mathlib.Core.Bool.{false}
+use mathlib.Core.Path.{_≡_}
+use Prim.Native.Nat.{ℕ, _<_}
+use lib.ListN.{getD}
+use Rattle.table.specs.declared.State.the-variants.{Free}
+use Rattle.table.specs.Places.{names}
+use Rattle.table.proofs.lookup.find.Given as given
+
+abbrev pub Inv-loop-place : given.InvT-loop-place
+Inv-loop-place l = (i : ℕ) → i < l .place → i < l .limit → names (getD (l .states) i Free) (l .number) ≡ false
