@@ -11,7 +11,7 @@ use Rattle.table.specs.declared.SpendRefusal.TheVariants.{NotHeld}
 use Rattle.table.specs.declared.Table.{Table}
 use Rattle.table.specs.Account.{Account, Accepted, Refused, Holds, Spends, number_of, unspent, with_row, with_kept}
 use Rattle.table.specs.Agreement.{AgreesWith}
-use Rattle.table.proofs.Given.{clash, given, given-bears}
+use Rattle.table.proofs.Given.{clash, given, given_bears}
 use Rattle.planfile.specs.declared.entry.Clock.{Clock as Factor}
 use Rattle.planfile.specs.declared.entry.Entry.{Entry}
 use Rattle.planfile.specs.declared.fault.LineFault.{LineFault}
@@ -49,7 +49,7 @@ module _ (clock : Factor) (rows : List Claim) (fs : List (List ℕ)) where
 -- a row that was held and kept is one row more, and no hold is left
 kept : (rows : List Claim) (c : Claim) (h : Token) → Accepted (taking rows) c h → with_kept (with_row (taking rows) c) h ≡ taking (c ∷ rows)
 kept rows c h accepted =
-    ap (λ b. record { number = 0; room = 12; rows = c ∷ rows; holds = cond b [] (record { table = 0; row = number_of c } ∷ []) }) (given-bears (taking rows) c h accepted)
+    ap (λ b. record { number = 0; room = 12; rows = c ∷ rows; holds = cond b [] (record { table = 0; row = number_of c } ∷ []) }) (given_bears (taking rows) c h accepted)
 
 module _ {K : Type 0} (demand : K → Demand) (t u v : Table K) (rows : List Claim) (c : Claim) (h : Token) where
   -- what a hold that is accepted does to each account
