@@ -4,5 +4,5 @@ use Rattle.demand.proofs.rounded_up.Goals as goal
 
 pub returns : goal.returns
 returns c =
-    let value = c.div-ceil.ensures ∙ up_is c.args.n c.args.by c.requires in
+    let value = c.div_ceil.ensures ∙ up_is c.args.n c.args.by c.requires in
     record { value = value; bound = omega (arith, up_within c.args.n c.args.by c.requires) }
