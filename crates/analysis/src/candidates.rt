@@ -8,7 +8,7 @@ use demand::Kind;
 
 // What a task's kind answers, all 0 where there is no task.
 fn work_of<K: Kind>(task: &Option<Task<K>>, window: u32) -> u32
-    ensures { result ≡ (demand_of demand task.now).work window }
+    ensures { result ≡ (demand_of K.demand task.now).work window }
 {
     match task {
         Some(task) => task.kind.work(window),
@@ -23,7 +23,7 @@ pub(crate) fn work_at<K: Kind>(
     place: usize,
     window: u32,
 ) -> u32
-    ensures { result ≡ (demand_of demand (candidate places.now newcomer.now place)).work window }
+    ensures { result ≡ (demand_of K.demand (candidate places.now newcomer.now place)).work window }
 {
     if place < places.len() {
         work_of(&places[place], window)
@@ -34,7 +34,7 @@ pub(crate) fn work_at<K: Kind>(
 
 // The longest and the shortest job of a task; both 0 where there is no task.
 fn jobs_of<K: Kind>(task: &Option<Task<K>>) -> (u32, u32)
-    ensures { (result.0 ≡ (demand_of demand task.now).own) × (result.1 ≡ (demand_of demand task.now).least) }
+    ensures { (result.0 ≡ (demand_of K.demand task.now).own) × (result.1 ≡ (demand_of K.demand task.now).least) }
 {
     match task {
         Some(task) => (task.kind.own(), task.kind.least()),
@@ -48,7 +48,7 @@ pub(crate) fn jobs_at<K: Kind>(
     newcomer: &Option<Task<K>>,
     place: usize,
 ) -> (u32, u32)
-    ensures { (result.0 ≡ (demand_of demand (candidate places.now newcomer.now place)).own) × (result.1 ≡ (demand_of demand (candidate places.now newcomer.now place)).least) }
+    ensures { (result.0 ≡ (demand_of K.demand (candidate places.now newcomer.now place)).own) × (result.1 ≡ (demand_of K.demand (candidate places.now newcomer.now place)).least) }
 {
     if place < places.len() {
         jobs_of(&places[place])

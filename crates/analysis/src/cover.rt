@@ -24,7 +24,7 @@ fn with_row<K: Kind>(
     sum: Sum,
 ) -> Sum
     ensures waits { result.waits ≡ min (sum.waits + (if chosen then row.wait else 0)) (2 ^ 64 - 1) }
-    ensures need { result.need ≡ min (sum.need + (demand_of demand (candidate places.now newcomer.now row.place)).work (clipped ((window + result.waits) + (if chosen then 0 else row.jitter)))) (2 ^ 64 - 1) }
+    ensures need { result.need ≡ min (sum.need + (demand_of K.demand (candidate places.now newcomer.now row.place)).work (clipped ((window + result.waits) + (if chosen then 0 else row.jitter)))) (2 ^ 64 - 1) }
 {
     let (wait, jitter) = if chosen {
         (row.wait, 0)
@@ -57,7 +57,7 @@ pub(crate) fn need_by<K: Kind>(
     window: u32,
 ) -> u64
     requires { length higher.now ≤ 31 }
-    ensures { result ≡ min (need_with demand places.now newcomer.now higher.now alone vector window) (2 ^ 64 - 1) }
+    ensures { result ≡ min (need_with K.demand places.now newcomer.now higher.now alone vector window) (2 ^ 64 - 1) }
 {
     let mut sum = Sum {
         waits: 0,

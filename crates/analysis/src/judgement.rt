@@ -37,7 +37,7 @@ fn judge_rank<K: Kind>(
 ) -> Option<(Answer, Higher)>
     requires few { length higher.now ≤ 31 }
     requires fits { blocking + 2 ^ 32 ≤ 2 ^ 64 }
-    ensures { RankJudged demand places.now newcomer.now higher.now rank blocking result }
+    ensures { RankJudged K.demand places.now newcomer.now higher.now rank blocking result }
 {
     let wait = u64::from(rank.row.suspension) + blocking;
     let (own, least) = jobs_at(places, newcomer, rank.place);
@@ -64,7 +64,7 @@ fn judge_ranked<K: Kind>(
     ranks: &[Rank],
 ) -> Result<Answers, u32>
     requires { length ranks.now ≤ 12 }
-    ensures { RanksJudged (map (claim_of demand places.now newcomer.now) ranks.now) result }
+    ensures { RanksJudged (map (claim_of K.demand places.now newcomer.now) ranks.now) result }
 {
     let ceilings = ceilings_of(ranks);
     let mut rows = [NO_ANSWER; 12];
@@ -96,11 +96,11 @@ pub fn judge<K: Kind>(
     places: &[Option<Task<K>>],
     newcomer: &Option<Task<K>>,
 ) -> Result<Answers, JudgeRefusal>
-    ensures judged { Judged (claims demand places.now newcomer.now) result }
-    ensures late_exactly_when_no_plan { LateExactlyWhenNoPlan (system_of (claims demand places.now newcomer.now)) }
-    ensures removal_keeps_in_time { RemovalKeepsInTime (claims demand places.now newcomer.now) }
-    ensures any_order { AnyOrder (claims demand places.now newcomer.now) }
-    ensures highest_first { HighestFirst (claims demand places.now newcomer.now) (ranked (claims demand places.now newcomer.now)) }
+    ensures judged { Judged (claims K.demand places.now newcomer.now) result }
+    ensures late_exactly_when_no_plan { LateExactlyWhenNoPlan (system_of (claims K.demand places.now newcomer.now)) }
+    ensures removal_keeps_in_time { RemovalKeepsInTime (claims K.demand places.now newcomer.now) }
+    ensures any_order { AnyOrder (claims K.demand places.now newcomer.now) }
+    ensures highest_first { HighestFirst (claims K.demand places.now newcomer.now) (ranked (claims K.demand places.now newcomer.now)) }
 {
     let Some(ranking) = rank_all(places, newcomer) else {
         return Err(JudgeRefusal::TooMany);

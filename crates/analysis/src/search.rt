@@ -18,7 +18,7 @@ pub(crate) fn search<K: Kind>(
     deadline: u32,
 ) -> Option<(u32, u32)>
     requires { length higher.now ≤ 31 }
-    ensures { Searched (need_with demand places.now newcomer.now higher.now alone) deadline (2 ^ length higher.now) result }
+    ensures { Searched (need_with K.demand places.now newcomer.now higher.now alone) deadline (2 ^ length higher.now) result }
 {
     let vectors = 1u32 << higher.len();
     let mut window = 1u64;

@@ -23,9 +23,9 @@ loop-i-preserved g c =
     let row : Higher = get_or hs (i - 1) (record { place = 0; wait = 0; jitter = 0 }) in
     let sum = c.loop-i.sum in
     let inv = subst (λ (v : ℕ). Summed (map above (drop i hs)) v c.args.window c.args.alone sum.waits sum.need) (sym (bits_back c.args.vector i c.loop-i-test.true)) c.loop-i.invariant in
-    subst (λ (xs : List Higher). Summed (map above xs) (c.args.vector / 2 ^ (i - 1)) c.args.window c.args.alone c.with-row-sum.result.waits c.with-row-sum.result.need)
+    subst (λ (xs : List Higher). Summed (map above xs) (c.args.vector / 2 ^ (i - 1)) c.args.window c.args.alone c.with_row-sum.result.waits c.with_row-sum.result.need)
     (sym (back hs i _ c.loop-i-test.true c.loop-i.auto.i))
-    (summed_more (above row) (map above (drop i hs)) (c.args.vector / 2 ^ (i - 1)) c.args.window c.args.alone sum.waits sum.need _ _ inv c.with-row-sum.ensures.waits c.with-row-sum.ensures.need)
+    (summed_more (above row) (map above (drop i hs)) (c.args.vector / 2 ^ (i - 1)) c.args.window c.args.alone sum.waits sum.need _ _ inv c.with_row-sum.ensures.waits c.with_row-sum.ensures.need)
 
 pub returns : goal.returns
 returns g c =

@@ -3,11 +3,11 @@ use Rattle.analysis.proofs.Order.{highest_first}
 use Rattle.analysis.proofs.Verdicts as verdicts
 use Rattle.analysis.proofs.judgement.judge.Goals as goal
 
-pub returns-in-default : goal.returns-in-default
-returns-in-default g c =
+pub returns-in_default : goal.returns-in_default
+returns-in_default g c =
     let newcomer = c.args.newcomer.now in
     record {
-      judged = c.in-default.ensures;
+      judged = c.in_default.ensures;
       late_exactly_when_no_plan = verdicts.late_exactly_when_no_plan g.K.Kind.demand g.met.K.Kind.lawful c.args.places.now newcomer;
       removal_keeps_in_time = verdicts.removal g.K.Kind.demand g.met.K.Kind.lawful c.args.places.now newcomer;
       any_order = any_order _;

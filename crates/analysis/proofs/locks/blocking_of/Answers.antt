@@ -16,4 +16,4 @@ loop-i-init c = (
 pub loop-i-preserved : goal.loop-i-preserved
 loop-i-preserved c =
     let before = ap (λ xs. longest (λ n. get_or c.args.ceilings.now n None) c.args.row.now.priority (ranked_rows xs)) (back c.args.lower.now c.loop-i.i no_rank (omega arith) (omega arith)) in
-    (cc (before, c.max-longest.ensures, c.longest-section.ensures, c.loop-i.invariant.0), omega arith)
+    (cc (before, c.max-longest.ensures, c.longest_section.ensures, c.loop-i.invariant.0), omega arith)
