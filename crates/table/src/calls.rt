@@ -68,7 +68,7 @@ fn as_refusal(refusal: JudgeRefusal) -> HoldRefusal
 impl<'a, K: Kind + Drop> Table<'a, K> {
     // An empty table over row memory, of which it uses twelve places at most. What stood there is let go.
     pub fn new(number: u8, places: &'a mut [Option<Task<K>>]) -> Table<'a, K>
-        ensures agrees { AgreesWith demand (fresh number (min (length places.old) 12)) result }
+        ensures agrees { AgreesWith K.demand (fresh number (min (length places.old) 12)) result }
         ensures every_run { EveryRun number (min (length places.old) 12) }
         ensures memory { Emptied places.old result.places.now }
         ensures number { result.number ≡ number }
@@ -102,13 +102,13 @@ impl<'a, K: Kind + Drop> Table<'a, K> {
     }
 
     fn has_number(&self, number: u32) -> bool
-        ensures { (a : Account) → AgreesWith demand a self.now → result ≡ has_number number a.rows }
+        ensures { (a : Account) → AgreesWith K.demand a self.now → result ≡ has_number number a.rows }
     {
         self.place_of(number).is_some()
     }
 
     fn has_priority(&self, priority: u32) -> bool
-        ensures { (a : Account) → AgreesWith demand a self.now → result ≡ has_priority priority a.rows }
+        ensures { (a : Account) → AgreesWith K.demand a self.now → result ≡ has_priority priority a.rows }
     {
         let places = &*self.places;
         any_priority(&places[0..self.limit()], priority)
@@ -116,7 +116,7 @@ impl<'a, K: Kind + Drop> Table<'a, K> {
 
     // Checks the numbers of a row.
     fn check_row(&self, row: &Row, kind: &K) -> Result<(), HoldRefusal>
-        ensures { (a : Account) → AgreesWith demand a self.now → check_number result ≡ first (row_checks a (record { row = row.entry.now; demand = demand kind.now })) }
+        ensures { (a : Account) → AgreesWith K.demand a self.now → check_number result ≡ first (row_checks a (record { row = row.entry.now; demand = K.demand kind.now })) }
     {
         let number = (row.number == 0) | (255 < row.number) | self.has_number(row.number);
         let priority = (row.priority == 0) | (255 < row.priority) | self.has_priority(row.priority);
@@ -142,7 +142,7 @@ impl<'a, K: Kind + Drop> Table<'a, K> {
 
     // Judges the rows with a newcomer.
     fn judge_with(&self, newcomer: &Option<Task<K>>) -> Result<(), HoldRefusal>
-        ensures { MatchResult result (λ _. (answers : Answers) × Judged (claims demand (take 12 self.now.places.now) newcomer.now) (Ok answers)) (λ e. (j : JudgeRefusal) × (e ≡ as_refusal j) × Judged (claims demand (take 12 self.now.places.now) newcomer.now) (Err j)) }
+        ensures { MatchResult result (λ _. (answers : Answers) × Judged (claims K.demand (take 12 self.now.places.now) newcomer.now) (Ok answers)) (λ e. (j : JudgeRefusal) × (e ≡ as_refusal j) × Judged (claims K.demand (take 12 self.now.places.now) newcomer.now) (Err j)) }
     {
         let places = &*self.places;
         match judge(&places[0..self.limit()], newcomer) {
@@ -163,7 +163,7 @@ impl<'a, K: Kind + Drop> Table<'a, K> {
 
     // Takes a row, if all rows are in time with it.
     pub fn hold(&mut self, row: Row, kind: K) -> Result<Hold, HoldRefusal>
-        ensures account { (a : Account) → AgreesWith demand a self.old → (b : Account) × Holds a (record { row = row; demand = demand kind }) result b × AgreesWith demand b self.new }
+        ensures account { (a : Account) → AgreesWith K.demand a self.old → (b : Account) × Holds a (record { row = row; demand = K.demand kind }) result b × AgreesWith K.demand b self.new }
         ensures memory { MatchResult result (λ h. ChangedAt self.old self.new Free (Held row.number) (Some (record { row = row; kind = kind }))) (λ e. SameTable self.old self.new) }
     {
         self.check_row(&row, &kind)?;
@@ -195,7 +195,7 @@ impl<'a, K: Kind + Drop> Table<'a, K> {
 
     // Spends a hold, and keeps its row.
     pub fn keep(&mut self, hold: Hold) -> Result<(), SpendRefusal>
-        ensures account { (a : Account) → AgreesWith demand a self.old → (b : Account) × Spends a hold (with_kept a hold) result b × AgreesWith demand b self.new }
+        ensures account { (a : Account) → AgreesWith K.demand a self.old → (b : Account) × Spends a hold (with_kept a hold) result b × AgreesWith K.demand b self.new }
         ensures memory { MatchResult result (λ _. MarkedAt self.old self.new (Held hold.row) (Kept hold.row)) (λ e. SameTable self.old self.new) }
     {
         let Some(place) = self.held_at(&hold) else {
@@ -216,7 +216,7 @@ impl<'a, K: Kind + Drop> Table<'a, K> {
 
     // Takes a kept row out.
     pub fn withdraw(&mut self, number: u32) -> Result<(), WithdrawRefusal>
-        ensures account { (a : Account) → AgreesWith demand a self.old → (b : Account) × Withdraws a number result b × AgreesWith demand b self.new }
+        ensures account { (a : Account) → AgreesWith K.demand a self.old → (b : Account) × Withdraws a number result b × AgreesWith K.demand b self.new }
         ensures memory { MatchResult result (λ _. ChangedAt self.old self.new (Kept number) Free None) (λ e. SameTable self.old self.new) }
     {
         let Some(place) = self.place_of(number) else {
@@ -231,7 +231,7 @@ impl<'a, K: Kind + Drop> Table<'a, K> {
 
     // The bound and the vector of a row.
     pub fn bound(&self, number: u32) -> Result<(u32, u32), BoundRefusal>
-        ensures { (a : Account) → AgreesWith demand a self.now → BoundsAnswered a number result }
+        ensures { (a : Account) → AgreesWith K.demand a self.now → BoundsAnswered a number result }
     {
         let places = &*self.places;
         let Ok(answers) = judge(&places[0..self.limit()], &None) else {
@@ -245,7 +245,7 @@ impl<'a, K: Kind + Drop> Table<'a, K> {
 
     // Spends a hold, and takes its row out.
     pub fn release(&mut self, hold: Hold) -> Result<(), SpendRefusal>
-        ensures account { (a : Account) → AgreesWith demand a self.old → (b : Account) × Spends a hold (with_released a hold) result b × AgreesWith demand b self.new }
+        ensures account { (a : Account) → AgreesWith K.demand a self.old → (b : Account) × Spends a hold (with_released a hold) result b × AgreesWith K.demand b self.new }
         ensures memory { MatchResult result (λ _. ChangedAt self.old self.new (Held hold.row) Free None) (λ e. SameTable self.old self.new) }
     {
         let Some(place) = self.held_at(&hold) else {

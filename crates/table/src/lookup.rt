@@ -54,7 +54,7 @@ pub(crate) fn find_free(states: &[State; 12], limit: usize) -> Option<usize>
 
 // Whether this task has the priority, or one behind it.
 fn has_this_priority<K: Kind>(task: &Option<Task<K>>, priority: u32, behind: bool) -> bool
-    ensures { result ≡ (has_priority priority (claims_of demand (task.now ∷ [])) || behind) }
+    ensures { result ≡ (has_priority priority (claims_of K.demand (task.now ∷ [])) || behind) }
 {
     match task {
         Some(task) => (task.row.priority == priority) | behind,
@@ -64,7 +64,7 @@ fn has_this_priority<K: Kind>(task: &Option<Task<K>>, priority: u32, behind: boo
 
 // Whether a row at one of the places has this priority.
 pub(crate) fn any_priority<K: Kind>(places: &[Option<Task<K>>], priority: u32) -> bool
-    ensures { result ≡ has_priority priority (claims_of demand places.now) }
+    ensures { result ≡ has_priority priority (claims_of K.demand places.now) }
 {
     let mut found = false;
     for i in (0..places.len()).rev() {
@@ -107,7 +107,7 @@ pub(crate) fn find_answer(answers: &[Answer], number: u32) -> Option<(u32, u32)>
 
 fn with_task<K: Kind>(task: &Option<Task<K>>, behind: usize) -> usize
     requires { behind < 2 ^ 63 }
-    ensures { result ≡ length (claims_of demand (task.now ∷ [])) + behind }
+    ensures { result ≡ length (claims_of K.demand (task.now ∷ [])) + behind }
 {
     match task {
         Some(_) => 1 + behind,
@@ -118,7 +118,7 @@ fn with_task<K: Kind>(task: &Option<Task<K>>, behind: usize) -> usize
 // How many of the first twelve places have a row.
 pub(crate) fn count_rows<K: Kind>(places: &[Option<Task<K>>]) -> usize
     requires { length places.now ≤ 12 }
-    ensures { result ≡ length (claims_of demand places.now) }
+    ensures { result ≡ length (claims_of K.demand places.now) }
 {
     let mut count = 0;
     for i in (0..places.len()).rev() {

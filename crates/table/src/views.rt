@@ -77,7 +77,7 @@ impl BoundRefusal {
 impl<'a, K: Kind + Drop> Table<'a, K> {
     // How many rows the table still has room for.
     pub fn room(&self) -> usize
-        ensures { (a : Account) → AgreesWith demand a self.now → result + length a.rows ≡ a.room }
+        ensures { (a : Account) → AgreesWith K.demand a self.now → result + length a.rows ≡ a.room }
     {
         let places = &*self.places;
         let used = &places[0..self.limit()];
@@ -86,7 +86,7 @@ impl<'a, K: Kind + Drop> Table<'a, K> {
 
     // Number, bound, vector and blocking of all rows, highest first. The rows of a table are in time, so it is never an error.
     pub fn answers(&self) -> Result<Answers, JudgeRefusal>
-        ensures { (a : Account) → AgreesWith demand a self.now → (all : Listed) × (result ≡ Ok all) × Answered (loads (ranked a.rows)) (answers_of all) }
+        ensures { (a : Account) → AgreesWith K.demand a self.now → (all : Listed) × (result ≡ Ok all) × Answered (loads (ranked a.rows)) (answers_of all) }
     {
         let places = &*self.places;
         judge(&places[0..self.limit()], &None)
@@ -94,7 +94,7 @@ impl<'a, K: Kind + Drop> Table<'a, K> {
 
     // Whether the row of this number is held or kept; `Free` where there is no such row.
     pub fn state_of(&self, number: u32) -> State
-        ensures { (a : Account) → AgreesWith demand a self.now → StateOf a number result }
+        ensures { (a : Account) → AgreesWith K.demand a self.now → StateOf a number result }
     {
         match self.place_of(number) {
             Some(place) => self.state_at(place),

@@ -43,6 +43,6 @@ pub returns-in-Err : goal.returns-in-Err
 returns-in-Err c =
     let loaded = c.in-Err.ensures.loaded in
     let text =
-    refused c.args.file.now c.args.out.now c.in-Err.fault c.write-refusal.result c.write-refusal.new.out loaded.0
-    (subst (λ (m : List ℕ). RefusalWritten (blame c.in-Err.fault) m c.write-refusal.result c.write-refusal.new.out) loaded.1 c.write-refusal.ensures) in
-    record { text = text; within = within c.args.file.now c.args.out.now c.write-refusal.result c.write-refusal.new.out text (c.write-refusal.auto.out ∙ c.load.auto.report) }
+    refused c.args.file.now c.args.out.now c.in-Err.fault c.write_refusal.result c.write_refusal.new.out loaded.0
+    (subst (λ (m : List ℕ). RefusalWritten (blame c.in-Err.fault) m c.write_refusal.result c.write_refusal.new.out) loaded.1 c.write_refusal.ensures) in
+    record { text = text; within = within c.args.file.now c.args.out.now c.write_refusal.result c.write_refusal.new.out text (c.write_refusal.auto.out ∙ c.load.auto.report) }

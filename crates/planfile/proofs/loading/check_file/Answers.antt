@@ -9,6 +9,6 @@ empty_refused : (text : List ℕ) (room : ℕ) → 512 ≤ room → length text 
 empty_refused [] room long none = ap (λ b. cond b (by 19) (by 18)) (sym (le-false room 512 long))
 empty_refused (b ∷ bs) room long none = absurd (omega arith)
 
-pub returns-in-default·2 : goal.returns-in-default·2
-returns-in-default·2 c =
-    empty_refused c.args.file.now c.args.room c.if-room-lt-REPORT-MEMORY.false (ltb-false 0 (length c.args.file.now) (sym c.in-default.ensures.item.0))
+pub returns-in_default-2 : goal.returns-in_default-2
+returns-in_default-2 c =
+    empty_refused c.args.file.now c.args.room c.if-room-lt-REPORT_MEMORY.false (ltb-false 0 (length c.args.file.now) (sym c.in_default.ensures.item.0))

@@ -33,48 +33,48 @@ not_refused P r e p f =
     let no : ◌≡◌ {A = ℕ} 0 1 = cc in
     omega arith
 
-pub returns-in-err-check-file : goal.returns-in-err-check-file
-returns-in-err-check-file c =
-    let p = err_from_is_err_and c.from-residual.result c.from-residual.ensures.1 in
+pub returns-in_err-check_file : goal.returns-in_err-check_file
+returns-in_err-check_file c =
+    let p = err_from_is_err_and c.from_residual.result c.from_residual.ensures.1 in
     let text = c.args.file.now in
     let before = c.args.report.now in
-    let loaded : Loaded text before c.from-residual.result before = rw p.1 (by_file text (length before) p.0 (c.in-err-check-file.ensures ∙ ap blame (sym p.2)), refl) in
+    let loaded : Loaded text before c.from_residual.result before = rw p.1 (by_file text (length before) p.0 (c.in_err-check_file.ensures ∙ ap blame (sym p.2)), refl) in
     record { loaded = loaded; in_file_order = in_file_order text before _ before loaded; one_answer = one_answer text before _ before loaded; round_trip = round_trip text before _ before loaded }
 
-pub returns-in-err-take-lines : goal.returns-in-err-take-lines
-returns-in-err-take-lines c =
-    let p = err_from_is_err_and c.from-residual-in-err-take-lines.result c.from-residual-in-err-take-lines.ensures.1 in
+pub returns-in_err-take_lines : goal.returns-in_err-take_lines
+returns-in_err-take_lines c =
+    let p = err_from_is_err_and c.from_residual-in_err-take_lines.result c.from_residual-in_err-take_lines.ensures.1 in
     let text = c.args.file.now in
     let before = c.args.report.now in
-    let loaded : Loaded text before c.from-residual-in-err-take-lines.result before = rw p.1 (inr (c.in-ok-check-file.ensures, subst (λ (f : Fault). LinesRead text (Err (blame f))) (sym p.2) c.in-err-take-lines.ensures), refl) in
+    let loaded : Loaded text before c.from_residual-in_err-take_lines.result before = rw p.1 (inr (c.in_ok-check_file.ensures, subst (λ (f : Fault). LinesRead text (Err (blame f))) (sym p.2) c.in_err-take_lines.ensures), refl) in
     record { loaded = loaded; in_file_order = in_file_order text before _ before loaded; one_answer = one_answer text before _ before loaded; round_trip = round_trip text before _ before loaded }
 
-pub write-report-requires : goal.write-report-requires
-write-report-requires c =
+pub write_report-requires : goal.write_report-requires
+write_report-requires c =
     let text = c.args.file.now in
-    let taken = c.in-ok-take-lines.ensures in
+    let taken = c.in_ok-take_lines.ensures in
     let answered = given taken.0 c.answers.result c.in-Ok.answers (c.answers.ensures (taking taken.0) taken.2) c.in-Ok.is in
-    omega (arith, fits text taken.0 (answers_of c.in-Ok.answers) taken.1 answered, ap (λ (x : List Answer). length (report x)) c.rows.ensures, long_enough text (length c.args.report.now) c.in-ok-check-file.ensures)
+    omega (arith, fits text taken.0 (answers_of c.in-Ok.answers) taken.1 answered, ap (λ (x : List Answer). length (report x)) c.rows.ensures, long_enough text (length c.args.report.now) c.in_ok-check_file.ensures)
 
 pub unreachable-requires : goal.unreachable-requires
 unreachable-requires c =
-    let taken = c.in-ok-take-lines.ensures in
+    let taken = c.in_ok-take_lines.ensures in
     not_refused _ c.answers.result _ (c.answers.ensures (taking taken.0) taken.2) c.in-Err.is
 
 pub returns : goal.returns
 returns c =
     let text = c.args.file.now in
     let before = c.args.report.now in
-    let after = c.write-report.new.out in
-    let taken = c.in-ok-take-lines.ensures in
+    let after = c.write_report.new.out in
+    let taken = c.in_ok-take_lines.ensures in
     let answered = subst (Answered (loads (ranked taken.0))) (sym c.rows.ensures) (given taken.0 c.answers.result c.in-Ok.answers (c.answers.ensures (taking taken.0) taken.2) c.in-Ok.is) in
-    let loaded : Loaded text before (Ok c.write-report.result) after =
+    let loaded : Loaded text before (Ok c.write_report.result) after =
     record {
       rows = taken.0;
       answers = c.rows.result.now;
-      read = inr (c.in-ok-check-file.ensures, taken.1);
+      read = inr (c.in_ok-check_file.ensures, taken.1);
       in_time = all_in_time text taken.0 c.rows.result.now taken.1 taken.2.sound.lawful answered;
-      size = c.write-report.ensures.next ∙ zero-add (length (report c.rows.result.now));
-      written = c.write-report.ensures.memory;
+      size = c.write_report.ensures.next ∙ zero-add (length (report c.rows.result.now));
+      written = c.write_report.ensures.memory;
     } in
-    record { loaded = loaded; in_file_order = in_file_order text before (Ok c.write-report.result) after loaded; one_answer = one_answer text before (Ok c.write-report.result) after loaded; round_trip = round_trip text before (Ok c.write-report.result) after loaded }
+    record { loaded = loaded; in_file_order = in_file_order text before (Ok c.write_report.result) after loaded; one_answer = one_answer text before (Ok c.write_report.result) after loaded; round_trip = round_trip text before (Ok c.write_report.result) after loaded }

@@ -7,9 +7,9 @@ use Rattle.planfile.proofs.Numbers.{empty_none, byte_none, large_none, number_fr
 use Rattle.planfile.proofs.number.read_number.Goals as goal
 use Rattle.planfile.proofs.number.read_number.Goals.{then-byte-lt48-via-then-byte-lt48, then-byte-lt48-via-else-byte-lt48+then-byte-gt57}
 
-pub returns-then-is-empty : goal.returns-then-is-empty
-returns-then-is-empty c =
-    let none : is_number c.args.field.now ≡ false = empty_none c.args.field.now (omega (arith, eqb-true (length c.args.field.now) 0 (sym c.if-is-empty.ensures))) in
+pub returns-then-is_empty : goal.returns-then-is_empty
+returns-then-is_empty c =
+    let none : is_number c.args.field.now ≡ false = empty_none c.args.field.now (omega (arith, eqb-true (length c.args.field.now) 0 (sym c.if-is_empty.ensures))) in
     record { value = none; inverse = reads_written c.args.field.now (Err NotNumber) none; canonical = tt }
 
 pub returns-then-byte-lt48 : goal.returns-then-byte-lt48
@@ -48,7 +48,7 @@ pub returns : goal.returns
 returns c =
     let digits : all_digits c.args.field.now ≡ true = sym c.loop-byte.invariant.1 ∙ at_drop_all all_digits c.args.field.now c.loop-byte.byte-index (omega arith) in
     let same : c.loop-byte.value ≡ value c.args.field.now = sym (at_drop_all (value_after c.loop-byte.value) c.args.field.now c.loop-byte.byte-index (omega arith)) ∙ c.loop-byte.invariant.2 in
-    let some : length c.args.field.now ≡ 0 → ⊥ = eqb-false (length c.args.field.now) 0 (sym c.if-is-empty.ensures) in
+    let some : length c.args.field.now ≡ 0 → ⊥ = eqb-false (length c.args.field.now) 0 (sym c.if-is_empty.ensures) in
     let number : is_number c.args.field.now ≡ true = number_from c.args.field.now (omega arith) digits (omega arith) in
     record {
       value = (number, same);

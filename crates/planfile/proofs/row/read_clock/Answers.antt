@@ -17,9 +17,9 @@ by_numbers fs f word count e =
     ap (λ (w : Word). cond (not (is_clock w)) (by_field 17 1) (cond (not (eqb (length fs) 3)) (by 15) rest)) word
     ∙ (ap (λ n. cond (not (eqb n 3)) (by 15) rest) count ∙ stopped (number_checks fs 2 2) (blaming_none (slowed_checks (number_in fs 2) (number_in fs 3))) (line_blame f) (fault_numbered f) e)
 
-pub returns-in-err-numerator : goal.returns-in-err-numerator
-returns-in-err-numerator c fs has =
-    let p = err_from_is_err_and c.from-residual.result c.from-residual.ensures.1 in
+pub returns-in_err-numerator : goal.returns-in_err-numerator
+returns-in_err-numerator c fs has =
+    let p = err_from_is_err_and c.from_residual.result c.from_residual.ensures.1 in
     let three : length fs ≡ 3 = sym has.count ∙ (sym c.count.ensures ∙ c.if-count-ne3.false) in
-    let word : word_of (field 1 fs) ≡ Clock = ap word_of (sym (c.field.ensures fs has has.some)) ∙ (sym c.read-word.ensures ∙ c.in-Clock.is) in
-    rw p.1 (by_numbers fs p.0 word three (c.in-err-numerator.ensures fs has (omega (arith, three)) ∙ ap line_blame (sym p.2)))
+    let word : word_of (field 1 fs) ≡ Clock = ap word_of (sym (c.field.ensures fs has has.some)) ∙ (sym c.read_word.ensures ∙ c.in-Clock.is) in
+    rw p.1 (by_numbers fs p.0 word three (c.in_err-numerator.ensures fs has (omega (arith, three)) ∙ ap line_blame (sym p.2)))

@@ -10,11 +10,11 @@ use Rattle.planfile.proofs.row.read_numbers.Goals as goal
 pub loop-i-init : goal.loop-i-init
 loop-i-init g c = (length-replicate _ _, λ fs has long. (refl, refl))
 
-pub returns-in-err-numbers : goal.returns-in-err-numbers
-returns-in-err-numbers g c fs has long =
-    let p = err_from_is_err_and c.from-residual.result c.from-residual.ensures.1 in
+pub returns-in_err-numbers : goal.returns-in_err-numbers
+returns-in_err-numbers g c fs has long =
+    let p = err_from_is_err_and c.from_residual.result c.from_residual.ensures.1 in
     let so_far = c.loop-i.invariant.1 fs has long in
-    let here = c.in-err-numbers.ensures fs has (omega arith) in
+    let here = c.in_err-numbers.ensures fs has (omega arith) in
     rw p.1 (first_broken fs c.args.start c.loop-i.i g.row.N (line_blame p.0) c.loop-i-test.true so_far.0 (fault_numbered p.0) (here ∙ ap line_blame (sym p.2)))
 
 pub loop-i-preserved : goal.loop-i-preserved
@@ -23,9 +23,9 @@ loop-i-preserved g c =
       length-set c.loop-i.numbers c.loop-i.i _ ∙ c.loop-i.invariant.0,
       λ fs has long.
           let so_far = c.loop-i.invariant.1 fs has long in
-          let here = c.in-ok-numbers.ensures fs has (omega arith) in (
+          let here = c.in_ok-numbers.ensures fs has (omega arith) in (
             one_more fs c.args.start c.loop-i.i so_far.0 here.0,
-            take_more_set c.loop-i.numbers c.loop-i.i _ shorter ∙ (ap (λ ns. ns ++ c.in-ok-numbers.field-0 ∷ []) so_far.1 ∙ (ap (λ n. numbers_in fs c.args.start c.loop-i.i ++ n ∷ []) here.1 ∙ (sym (numbers_more fs c.args.start c.loop-i.i) ∙ ap (numbers_in fs c.args.start) (sym (add-one c.loop-i.i))))),
+            take_more_set c.loop-i.numbers c.loop-i.i _ shorter ∙ (ap (λ ns. ns ++ c.in_ok-numbers.field-0 ∷ []) so_far.1 ∙ (ap (λ n. numbers_in fs c.args.start c.loop-i.i ++ n ∷ []) here.1 ∙ (sym (numbers_more fs c.args.start c.loop-i.i) ∙ ap (numbers_in fs c.args.start) (sym (add-one c.loop-i.i))))),
           ),
     )
 

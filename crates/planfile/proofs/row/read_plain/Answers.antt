@@ -4,10 +4,10 @@ use Rattle.analysis.specs.declared.Row.{Row}
 use Rattle.planfile.specs.Fault.{line_blame}
 use Rattle.planfile.proofs.row.read_plain.Goals as goal
 
-pub returns-in-err-number : goal.returns-in-err-number
-returns-in-err-number c fs has long =
-    let p = err_from_is_err_and c.from-residual.result c.from-residual.ensures.1 in
-    rw p.1 (c.in-err-number.ensures fs has (omega arith) ∙ ap line_blame (sym p.2))
+pub returns-in_err-number : goal.returns-in_err-number
+returns-in_err-number c fs has long =
+    let p = err_from_is_err_and c.from_residual.result c.from_residual.ensures.1 in
+    rw p.1 (c.in_err-number.ensures fs has (omega arith) ∙ ap line_blame (sym p.2))
 
 -- a row and its delay, by the places of their numbers
 abbrev placed : List ℕ → Row × ℕ
@@ -25,5 +25,5 @@ placed ns = (
 
 pub returns : goal.returns
 returns c fs has long =
-    let read = c.in-ok-number.ensures fs has (omega arith) in
+    let read = c.in_ok-number.ensures fs has (omega arith) in
     (read.0, ap placed read.1)

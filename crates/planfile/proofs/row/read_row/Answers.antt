@@ -34,32 +34,32 @@ made row delay jobs = record { row = row; delay = delay; jobs = jobs }
 read_pass : (fs : List (List ℕ)) (kind : Word) → kind ≡ word_of (field 16 fs) → first_blame (word_checks fs) ≡ nothing → WordsPass fs kind
 read_pass fs kind e words = subst (WordsPass fs) (sym e) (words_pass fs words)
 
-pub returns-in-err-kind : goal.returns-in-err-kind
-returns-in-err-kind c fs has =
-    let p = err_from_is_err_and c.from-residual.result c.from-residual.ensures.1 in
-    rw p.1 (by_words fs p.0 (c.in-err-kind.ensures fs has ∙ ap line_blame (sym p.2)))
+pub returns-in_err-kind : goal.returns-in_err-kind
+returns-in_err-kind c fs has =
+    let p = err_from_is_err_and c.from_residual.result c.from_residual.ensures.1 in
+    rw p.1 (by_words fs p.0 (c.in_err-kind.ensures fs has ∙ ap line_blame (sym p.2)))
 
-pub returns-in-err-row : goal.returns-in-err-row
-returns-in-err-row c fs has =
-    let p = err_from_is_err_and c.from-residual-in-err-row.result c.from-residual-in-err-row.ensures.1 in
-    let words = c.in-ok-kind.ensures fs has in
+pub returns-in_err-row : goal.returns-in_err-row
+returns-in_err-row c fs has =
+    let p = err_from_is_err_and c.from_residual-in_err-row.result c.from_residual-in_err-row.ensures.1 in
+    let words = c.in_ok-kind.ensures fs has in
     let pass = words_pass fs words.0 in
-    rw p.1 (by_row fs p.0 words.0 (c.in-err-row.ensures fs has (omega (arith, pass.enough)) ∙ ap line_blame (sym p.2)))
+    rw p.1 (by_row fs p.0 words.0 (c.in_err-row.ensures fs has (omega (arith, pass.enough)) ∙ ap line_blame (sym p.2)))
 
-pub returns-in-err-jobs : goal.returns-in-err-jobs
-returns-in-err-jobs c fs has =
-    let p = err_from_is_err_and c.from-residual-in-err-jobs.result c.from-residual-in-err-jobs.ensures.1 in
-    let words = c.in-ok-kind.ensures fs has in
-    let pass = read_pass fs c.in-ok-kind.kind words.1 words.0 in
-    let row = c.in-ok-row.ensures fs has (omega (arith, pass.enough)) in
-    rw p.1 (by_jobs fs words.0 row.0 ∙ (c.in-err-jobs.ensures fs has pass.named pass.due ∙ ap line_blame (sym p.2)))
+pub returns-in_err-jobs : goal.returns-in_err-jobs
+returns-in_err-jobs c fs has =
+    let p = err_from_is_err_and c.from_residual-in_err-jobs.result c.from_residual-in_err-jobs.ensures.1 in
+    let words = c.in_ok-kind.ensures fs has in
+    let pass = read_pass fs c.in_ok-kind.kind words.1 words.0 in
+    let row = c.in_ok-row.ensures fs has (omega (arith, pass.enough)) in
+    rw p.1 (by_jobs fs words.0 row.0 ∙ (c.in_err-jobs.ensures fs has pass.named pass.due ∙ ap line_blame (sym p.2)))
 
 pub returns : goal.returns
 returns c fs has =
-    let words = c.in-ok-kind.ensures fs has in
-    let pass = read_pass fs c.in-ok-kind.kind words.1 words.0 in
-    let row = c.in-ok-row.ensures fs has (omega (arith, pass.enough)) in
-    let jobs = c.in-ok-jobs.ensures fs has pass.named pass.due in (
+    let words = c.in_ok-kind.ensures fs has in
+    let pass = read_pass fs c.in_ok-kind.kind words.1 words.0 in
+    let row = c.in_ok-row.ensures fs has (omega (arith, pass.enough)) in
+    let jobs = c.in_ok-jobs.ensures fs has pass.named pass.due in (
       by_jobs fs words.0 row.0 ∙ jobs.0,
-      ap (λ (x : Row × ℕ). made x.0 x.1 c.in-ok-jobs.jobs) row.1 ∙ ap (made (row_of fs) (number_in fs 7)) (jobs.1 ∙ ap (jobs_in fs) words.1),
+      ap (λ (x : Row × ℕ). made x.0 x.1 c.in_ok-jobs.jobs) row.1 ∙ ap (made (row_of fs) (number_in fs 7)) (jobs.1 ∙ ap (jobs_in fs) words.1),
     )

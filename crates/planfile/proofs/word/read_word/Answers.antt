@@ -16,59 +16,59 @@ returns-in-101 c = rw word_is (grind (arith, nat_tests))
 pub returns-in-104 : goal.returns-in-104
 returns-in-104 c = rw word_is (grind (arith, nat_tests))
 
-pub returns-in-default : goal.returns-in-default
-returns-in-default c = rw word_is (grind (arith, nat_tests))
+pub returns-in_default : goal.returns-in_default
+returns-in_default c = rw word_is (grind (arith, nat_tests))
 
-pub returns-in-default·2 : goal.returns-in-default·2
-returns-in-default·2 c = rw word_is (grind (arith, nat_tests))
+pub returns-in_default-2 : goal.returns-in_default-2
+returns-in_default-2 c = rw word_is (grind (arith, nat_tests))
 
-pub returns-in-default·3 : goal.returns-in-default·3
-returns-in-default·3 c = rw word_is (grind (arith, nat_tests))
+pub returns-in_default-3 : goal.returns-in_default-3
+returns-in_default-3 c = rw word_is (grind (arith, nat_tests))
 
-pub returns-in-default·4 : goal.returns-in-default·4
-returns-in-default·4 c = rw word_is (grind (arith, nat_tests))
+pub returns-in_default-4 : goal.returns-in_default-4
+returns-in_default-4 c = rw word_is (grind (arith, nat_tests))
 
-pub returns-in-default·5 : goal.returns-in-default·5
-returns-in-default·5 c = rw word_is (grind (arith, nat_tests))
+pub returns-in_default-5 : goal.returns-in_default-5
+returns-in_default-5 c = rw word_is (grind (arith, nat_tests))
 
-pub returns-in-default·6 : goal.returns-in-default·6
-returns-in-default·6 c = rw word_is (grind (arith, nat_tests))
+pub returns-in_default-6 : goal.returns-in_default-6
+returns-in_default-6 c = rw word_is (grind (arith, nat_tests))
 
-pub returns-in-default·7 : goal.returns-in-default·7
-returns-in-default·7 c = rw word_is (grind (arith, nat_tests))
+pub returns-in_default-7 : goal.returns-in_default-7
+returns-in_default-7 c = rw word_is (grind (arith, nat_tests))
 
-pub returns-in-default·8 : goal.returns-in-default·8
-returns-in-default·8 c = rw word_is (grind (arith, nat_tests))
+pub returns-in_default-8 : goal.returns-in_default-8
+returns-in_default-8 c = rw word_is (grind (arith, nat_tests))
 
-pub returns-in-default·9 : goal.returns-in-default·9
-returns-in-default·9 c = rw word_is (grind (arith, nat_tests))
+pub returns-in_default-9 : goal.returns-in_default-9
+returns-in_default-9 c = rw word_is (grind (arith, nat_tests))
 
-pub returns-in-default·10 : goal.returns-in-default·10
-returns-in-default·10 c = rw word_is (grind (arith, nat_tests))
+pub returns-in_default-10 : goal.returns-in_default-10
+returns-in_default-10 c = rw word_is (grind (arith, nat_tests))
 
-pub returns-in-default·11 : goal.returns-in-default·11
-returns-in-default·11 c = rw word_is (grind (arith, nat_tests))
+pub returns-in_default-11 : goal.returns-in_default-11
+returns-in_default-11 c = rw word_is (grind (arith, nat_tests))
 
-pub returns-in-default·12 : goal.returns-in-default·12
-returns-in-default·12 c = rw word_is (grind (arith, nat_tests))
+pub returns-in_default-12 : goal.returns-in_default-12
+returns-in_default-12 c = rw word_is (grind (arith, nat_tests))
 
-pub returns-in-default·13 : goal.returns-in-default·13
-returns-in-default·13 c = rw word_is (grind (arith, nat_tests))
+pub returns-in_default-13 : goal.returns-in_default-13
+returns-in_default-13 c = rw word_is (grind (arith, nat_tests))
 
-pub returns-in-default·14 : goal.returns-in-default·14
-returns-in-default·14 c = rw word_is (grind (arith, nat_tests))
+pub returns-in_default-14 : goal.returns-in_default-14
+returns-in_default-14 c = rw word_is (grind (arith, nat_tests))
 
-pub returns-in-default·15 : goal.returns-in-default·15
-returns-in-default·15 c = rw word_is (grind (arith, nat_tests))
+pub returns-in_default-15 : goal.returns-in_default-15
+returns-in_default-15 c = rw word_is (grind (arith, nat_tests))
 
-pub returns-in-default·16 : goal.returns-in-default·16
-returns-in-default·16 c = rw word_is (grind (arith, nat_tests))
+pub returns-in_default-16 : goal.returns-in_default-16
+returns-in_default-16 c = rw word_is (grind (arith, nat_tests))
 
-pub returns-in-default·17 : goal.returns-in-default·17
-returns-in-default·17 c = rw word_is (grind (arith, nat_tests))
+pub returns-in_default-17 : goal.returns-in_default-17
+returns-in_default-17 c = rw word_is (grind (arith, nat_tests))
 
-pub returns-in-default·18 : goal.returns-in-default·18
-returns-in-default·18 c = rw word_is (grind (arith, nat_tests))
+pub returns-in_default-18 : goal.returns-in_default-18
+returns-in_default-18 c = rw word_is (grind (arith, nat_tests))
 
-pub returns-in-default·19 : goal.returns-in-default·19
-returns-in-default·19 c = rw word_is (grind (arith, nat_tests))
+pub returns-in_default-19 : goal.returns-in_default-19
+returns-in_default-19 c = rw word_is (grind (arith, nat_tests))

@@ -10,18 +10,18 @@ one_digit n h = let same : n ≡ n % 10 = omega arith in decimal_digit n h ∙ a
 one_more : (n : ℕ) → 10 ≤ n → n < 2 ^ 64 → length (decimal n) ≡ length (decimal (n / 10)) + 1
 one_more n h fits = ap length (decimal_step n h fits) ∙ length_push (decimal (n / 10)) (48 + n % 10)
 
-pub write-byte-requires : goal.write-byte-requires
-write-byte-requires t c = omega (arith, ap length (one_digit c.args.number (omega arith)))
+pub write_byte-requires : goal.write_byte-requires
+write_byte-requires t c = omega (arith, ap length (one_digit c.args.number (omega arith)))
 
 pub returns-then-number-lt10 : goal.returns-then-number-lt10
-returns-then-number-lt10 t c = rw (one_digit c.args.number (omega arith)) c.write-byte.ensures
+returns-then-number-lt10 t c = rw (one_digit c.args.number (omega arith)) c.write_byte.ensures
 
-pub write-number-next-requires : goal.write-number-next-requires
-write-number-next-requires t c = (omega arith, omega (arith, one_more c.args.number (omega arith) (omega arith)))
+pub write_number-next-requires : goal.write_number-next-requires
+write_number-next-requires t c = (omega arith, omega (arith, one_more c.args.number (omega arith) (omega arith)))
 
-pub write-byte-requires-2 : goal.write-byte-requires-2
-write-byte-requires-2 t c = omega (arith, one_more c.args.number (omega arith) (omega arith))
+pub write_byte-requires-2 : goal.write_byte-requires-2
+write_byte-requires-2 t c = omega (arith, one_more c.args.number (omega arith) (omega arith))
 
 pub returns : goal.returns
 returns t c =
-    rw (decimal_step c.args.number (omega arith) (omega arith)) (wrote_both (omega arith) c.write-number-next.ensures c.write-byte-2.ensures)
+    rw (decimal_step c.args.number (omega arith) (omega arith)) (wrote_both (omega arith) c.write_number-next.ensures c.write_byte-2.ensures)

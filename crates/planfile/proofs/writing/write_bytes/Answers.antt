@@ -9,7 +9,7 @@ loop-byte-init c = wrote_none c.args.out.now c.args.at
 pub loop-byte-preserved : goal.loop-byte-preserved
 loop-byte-preserved c =
     let lt : c.loop-byte.byte-index < length c.args.bytes.now = omega arith in
-    rw (take_more c.args.bytes.now c.loop-byte.byte-index 0 lt) (wrote_both (omega arith) c.loop-byte.invariant c.write-byte-next.ensures)
+    rw (take_more c.args.bytes.now c.loop-byte.byte-index 0 lt) (wrote_both (omega arith) c.loop-byte.invariant c.write_byte-next.ensures)
 
 pub returns : goal.returns
 returns c = rw (take_all c.loop-byte.byte-index c.args.bytes.now (omega arith)) at c.loop-byte.invariant

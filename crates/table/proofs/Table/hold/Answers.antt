@@ -15,26 +15,26 @@ use Rattle.table.proofs.Judgements.{newcomer_in_time}
 use Rattle.table.proofs.Lookups.{place_free}
 use Rattle.table.proofs.Table.hold.Goals as goal
 
-pub returns-in-err-check-row : goal.returns-in-err-check-row
-returns-in-err-check-row g c =
-    let p = err_from_is_err_and c.from-residual.result c.from-residual.ensures.1 in
+pub returns-in_err-check_row : goal.returns-in_err-check_row
+returns-in_err-check_row g c =
+    let p = err_from_is_err_and c.from_residual.result c.from_residual.ensures.1 in
     let claim : Claim = record { row = c.args.row; demand = g.K.Kind.demand c.args.kind } in
     record {
       account = λ a agrees. (
         a,
-        rw p.1 (refused_early a claim p.0 (ap hold_number p.2 ∙ c.in-err-check-row.ensures a agrees), refl),
+        rw p.1 (refused_early a claim p.0 (ap hold_number p.2 ∙ c.in_err-check_row.ensures a agrees), refl),
         agrees,
       );
       memory = rw p.1 (record { number = refl; states = refl; places = refl; lent = refl });
     }
 
-pub returns-in-default : goal.returns-in-default
-returns-in-default g c =
+pub returns-in_default : goal.returns-in_default
+returns-in_default g c =
     let claim : Claim = record { row = c.args.row; demand = g.K.Kind.demand c.args.kind } in
     record {
       account = λ a agrees.
-          let z = sym (c.in-ok-check-row.ensures a agrees) in
-          let full = place_free g.K.Kind.demand a c.args.self.now.number c.args.self.now.states c.args.self.now.places.now agrees c.free-place.result c.free-place.ensures ∙ ap (λ o. not (is_some o)) c.in-default.is in
+          let z = sym (c.in_ok-check_row.ensures a agrees) in
+          let full = place_free g.K.Kind.demand a c.args.self.now.number c.args.self.now.states c.args.self.now.places.now agrees c.free_place.result c.free_place.ensures ∙ ap (λ o. not (is_some o)) c.in_default.is in
           (a, (no_place a claim z full, refl), agrees);
       memory = record { number = refl; states = refl; places = refl; lent = refl };
     }
@@ -44,14 +44,14 @@ all_pass : {K : Type 0} (demand : K → Demand) (a : Account) (t : Table K) (agr
 all_pass demand a t agrees c z r free p e =
     passes a c (sym z) (place_free demand a t.number t.states t.places.now agrees r free ∙ ap (λ o. not (is_some o)) e)
 
-pub returns-in-err-judge-with : goal.returns-in-err-judge-with
-returns-in-err-judge-with g c =
-    let p = err_from_is_err_and c.from-residual-in-err-judge-with.result c.from-residual-in-err-judge-with.ensures.1 in
-    let q = c.in-err-judge-with.ensures in
+pub returns-in_err-judge_with : goal.returns-in_err-judge_with
+returns-in_err-judge_with g c =
+    let p = err_from_is_err_and c.from_residual-in_err-judge_with.result c.from_residual-in_err-judge_with.ensures.1 in
+    let q = c.in_err-judge_with.ensures in
     let claim : Claim = record { row = c.args.row; demand = g.K.Kind.demand c.args.kind } in
     record {
       account = λ a agrees.
-          let z = all_pass g.K.Kind.demand a c.args.self.now agrees claim (c.in-ok-check-row.ensures a agrees) c.free-place.result c.free-place.ensures c.in-Some.place c.in-Some.is in (
+          let z = all_pass g.K.Kind.demand a c.args.self.now agrees claim (c.in_ok-check_row.ensures a agrees) c.free_place.result c.free_place.ensures c.in-Some.place c.in-Some.is in (
             a,
             rw p.1
                 (subst (Refused a claim) (sym (p.2 ∙ q.1)) (refused_judged g.K.Kind.demand a c.args.self.now.number c.args.self.now.states c.args.self.now.places.now agrees (record { row = c.args.row; kind = c.args.kind }) z q.0 q.2), refl),
@@ -63,11 +63,11 @@ returns-in-err-judge-with g c =
 pub returns : goal.returns
 returns g c =
     let h = c.in-Some.ensures in
-    let q = c.in-ok-judge-with.ensures in
+    let q = c.in_ok-judge_with.ensures in
     let claim : Claim = record { row = c.args.row; demand = g.K.Kind.demand c.args.kind } in
     record {
       account = λ a agrees.
-          let z = all_pass g.K.Kind.demand a c.args.self.now agrees claim (c.in-ok-check-row.ensures a agrees) c.free-place.result c.free-place.ensures c.in-Some.place c.in-Some.is in
+          let z = all_pass g.K.Kind.demand a c.args.self.now agrees claim (c.in_ok-check_row.ensures a agrees) c.free_place.result c.free_place.ensures c.in-Some.place c.in-Some.is in
           let in_time = newcomer_in_time g.K.Kind.demand a c.args.self.now.number c.args.self.now.states c.args.self.now.places.now agrees (record { row = c.args.row; kind = c.args.kind }) z q.0 q.1 in (
             with_row a claim,
             (record { passes = z; in_time = in_time; table = c.put.ensures.number ∙ sym agrees.number_is; row = refl }, refl),

@@ -8,8 +8,8 @@ use Rattle.table.proofs.AfterRun.{every_run}
 use Rattle.table.proofs.Spending.{fresh_agrees}
 use Rattle.table.proofs.Table.new.Goals as goal
 
-pub offset-bounds-places-place : goal.offset-bounds-places-place
-offset-bounds-places-place g c = let h : c.loop-place.place < length c.args.places.now = omega arith in search rules
+pub offset_bounds-places-place : goal.offset_bounds-places-place
+offset_bounds-places-place g c = let h : c.loop-place.place < length c.args.places.now = omega arith in search rules
 
 pub loop-place-preserved : goal.loop-place-preserved
 loop-place-preserved g c = (

@@ -6,10 +6,10 @@ use Rattle.table.proofs.Found.{put_agrees}
 use Rattle.table.proofs.Refusals.{not_unspent, still_ours}
 use Rattle.table.proofs.Table.release.Goals as goal
 
-pub returns-in-default : goal.returns-in-default
-returns-in-default g c =
+pub returns-in_default : goal.returns-in_default
+returns-in_default g c =
     record {
-      account = λ a agrees. (a, (not_unspent g.K.Kind.demand a c.args.self.now agrees c.args.hold c.in-default.ensures, refl, refl), agrees);
+      account = λ a agrees. (a, (not_unspent g.K.Kind.demand a c.args.self.now agrees c.args.hold c.in_default.ensures, refl, refl), agrees);
       memory = record { number = refl; states = refl; places = refl; lent = refl };
     }
 

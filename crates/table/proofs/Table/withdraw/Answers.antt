@@ -8,26 +8,26 @@ use Rattle.table.proofs.Found.{names_held, names_kept, put_agrees}
 use Rattle.table.proofs.Spending as spending
 use Rattle.table.proofs.Table.withdraw.Goals as goal
 
-pub returns-in-default : goal.returns-in-default
-returns-in-default g c =
+pub returns-in_default : goal.returns-in_default
+returns-in_default g c =
     record {
       account = λ a agrees. (
         a,
-        (sym (number_found_within g.K.Kind.demand a c.args.self.now.number c.args.self.now.states c.args.self.now.places.now agrees c.args.number c.place-of.result c.place-of.ensures) ∙ ap is_some c.in-default.is, refl),
+        (sym (number_found_within g.K.Kind.demand a c.args.self.now.number c.args.self.now.states c.args.self.now.places.now agrees c.args.number c.place_of.result c.place_of.ensures) ∙ ap is_some c.in_default.is, refl),
         agrees,
       );
       memory = record { number = refl; states = refl; places = refl; lent = refl };
     }
 
-pub returns-then-is-held : goal.returns-then-is-held
-returns-then-is-held g c =
+pub returns-then-is_held : goal.returns-then-is_held
+returns-then-is_held g c =
     let h = c.in-Some.ensures in
-    let at = names_held (get_or c.args.self.now.states c.in-Some.place Free) c.args.number h.2 (ap is_held (sym c.state-at.ensures) ∙ sym c.if-is-held.ensures) in
+    let at = names_held (get_or c.args.self.now.states c.in-Some.place Free) c.args.number h.2 (ap is_held (sym c.state_at.ensures) ∙ sym c.if-is_held.ensures) in
     record {
       account = λ a agrees. (
         a,
         (
-          sym (number_found_within g.K.Kind.demand a c.args.self.now.number c.args.self.now.states c.args.self.now.places.now agrees c.args.number c.place-of.result c.place-of.ensures) ∙ ap is_some c.in-Some.is,
+          sym (number_found_within g.K.Kind.demand a c.args.self.now.number c.args.self.now.states c.args.self.now.places.now agrees c.args.number c.place_of.result c.place_of.ensures) ∙ ap is_some c.in-Some.is,
           spending.is_held g.K.Kind.demand a c.args.self.now.number c.args.self.now.states c.args.self.now.places.now agrees agrees.states_are c.in-Some.place c.args.number h.0 at,
           refl,
         ),
@@ -39,12 +39,12 @@ returns-then-is-held g c =
 pub returns : goal.returns
 returns g c =
     let h = c.in-Some.ensures in
-    let at = names_kept (get_or c.args.self.now.states c.in-Some.place Free) c.args.number h.2 (ap is_held (sym c.state-at.ensures) ∙ sym c.if-is-held.ensures) in
+    let at = names_kept (get_or c.args.self.now.states c.in-Some.place Free) c.args.number h.2 (ap is_held (sym c.state_at.ensures) ∙ sym c.if-is_held.ensures) in
     record {
       account = λ a agrees. (
         with_withdrawn a c.args.number,
         (
-          sym (number_found_within g.K.Kind.demand a c.args.self.now.number c.args.self.now.states c.args.self.now.places.now agrees c.args.number c.place-of.result c.place-of.ensures) ∙ ap is_some c.in-Some.is,
+          sym (number_found_within g.K.Kind.demand a c.args.self.now.number c.args.self.now.states c.args.self.now.places.now agrees c.args.number c.place_of.result c.place_of.ensures) ∙ ap is_some c.in-Some.is,
           (spending.is_spent g.K.Kind.demand a c.args.self.now.number c.args.self.now.states c.args.self.now.places.now agrees agrees.states_are c.in-Some.place c.args.number h.0 at).1,
           refl,
         ),

@@ -13,7 +13,7 @@ loop-i-init g c =
 pub loop-i-preserved : goal.loop-i-preserved
 loop-i-preserved g c =
     let here = get_or_read c.args.places.now (c.loop-i.i - 1) c.index-places-i.result (omega arith) c.index-places-i.is None in
-    c.has-this-priority-found.ensures
+    c.has_this_priority-found.ensures
     ∙ ap (λ (b : Bool). has_priority c.args.priority (claims_of g.K.Kind.demand (c.index-places-i.result ∷ [])) || b) c.loop-i.invariant
     ∙ priority_first g.K.Kind.demand c.args.priority c.index-places-i.result (drop c.loop-i.i c.args.places.now)
     ∙ ap (λ o. has_priority c.args.priority (claims_of g.K.Kind.demand (o ∷ drop c.loop-i.i c.args.places.now))) here

@@ -11,4 +11,4 @@ loop-i-init c = sym (ap (answer_of c.args.number) (drop_all _ c.args.answers.now
 pub loop-i-preserved : goal.loop-i-preserved
 loop-i-preserved c =
     let before = ap (answer_of c.args.number) (back c.args.answers.now c.loop-i.i no_answer (omega arith) (omega arith)) in
-    cc (before, c.this-or-found.ensures, c.loop-i.invariant)
+    cc (before, c.this_or-found.ensures, c.loop-i.invariant)

@@ -29,7 +29,7 @@ loop-self-preserved c =
       c.step.ensures.text ∙ c.loop-self.invariant.0,
       omega arith,
       omega arith,
-      subst (λ st. Taken text s after.position after.spans st → Taking text s after.position after.spans st) (sym c.in-default.is) (λ f. f) t,
+      subst (λ st. Taken text s after.position after.spans st → Taking text s after.position after.spans st) (sym c.in_default.is) (λ f. f) t,
     )
 
 pub unreachable-requires : goal.unreachable-requires
