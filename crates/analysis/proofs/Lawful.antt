@@ -2,7 +2,7 @@
 use Rattle.std.proofs.Common.{ℕ, zero, suc, ◌<◌, ◌≤◌, List, [], ◌∷◌, take, refl, arith}
 use Rattle.demand.specs.Demand.{Lawful}
 use Rattle.analysis.specs.Cover.{interference}
-use Rattle.analysis.specs.Ranks.{Claim, Load, wait, aboves, loads_of, system}
+use Rattle.analysis.specs.Ranks.{Claim, Load, aboves, loads_of, system}
 use Rattle.analysis.specs.declared.Row.{Row}
 use Rattle.analysis.proofs.Easier.{Easier, none, keep, interference_easier}
 use Rattle.analysis.proofs.Best.{Grows}

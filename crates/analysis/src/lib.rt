@@ -1,4 +1,6 @@
 // The response-time analysis of fixed-priority tasks that suspend themselves and share locks.
+#![tactic(auto)]
+
 ghost use Rattle.std.specs.Prelude.{◌≡◌, true};
 ghost use Rattle.analysis.specs.Figures.{GarageFigures};
 

@@ -1,4 +1,6 @@
 // An evening at a charging cabinet: rows enter and leave a table, and each step is told.
+#![tactic(auto)]
+
 mod desk;
 mod rows;
 mod tell;

@@ -1,4 +1,6 @@
 // Judges a built-in garage of three rows, and prints what was found.
+#![tactic(auto)]
+
 use analysis::{JudgeRefusal, Row, Task, judge};
 use demand::Every;
 use std::io;

@@ -1,4 +1,6 @@
 // A table that rows enter and leave: a start request holds a row first, and keeps or releases it later.
+#![tactic(auto)]
+
 ghost use Rattle.std.specs.Prelude.{◌≡◌, true};
 ghost use Rattle.table.specs.Figures.{WorkedFigures};
 
