@@ -1,4 +1,6 @@
 // Judges sets of rows from standard input, and prints what is found for each.
+#![tactic(auto)]
+
 ghost use Rattle.std.specs.Prelude.{◌≡◌, ◌++◌, string_bytes, OnOk};
 ghost use Rattle.judge_sets.specs.Lines.{answer_line};
 
@@ -7,12 +9,11 @@ mod line;
 use analysis::{Answer, JudgeRefusal, Task, judge};
 use anyhow::anyhow;
 use line::{Demand, Line};
-use std::alloc::Global;
-use std::fmt;
+use std::alloc::{AllocError, Global};
 use std::io::{BufRead, BufReader};
 
 // Appends the line of one answer.
-fn write_answer(text: &mut String, answer: &Answer) -> fmt::Result
+fn write_answer(text: &mut String, answer: &Answer) -> Result<(), AllocError>
     ensures { OnOk result (string_bytes text.new ≡ string_bytes text.old ++ answer_line answer.now) }
 {
     let number = answer.number;
@@ -23,7 +24,7 @@ fn write_answer(text: &mut String, answer: &Answer) -> fmt::Result
 }
 
 // Appends what is found for one set.
-fn write_set(text: &mut String, places: &[Option<Task<Demand>>]) -> fmt::Result {
+fn write_set(text: &mut String, places: &[Option<Task<Demand>>]) -> Result<(), AllocError> {
     match judge(places, &None) {
         Ok(answers) => {
             for answer in answers.rows() {

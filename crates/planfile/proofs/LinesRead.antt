@@ -1,5 +1,5 @@
 -- What the lines of a file give, one after the other. Assumes nothing.
-use Rattle.std.proofs.Common.{◌≡◌, ℕ, ◌+◌, ◌-◌, ◌<◌, ◌≤◌, true, ◌≢◌, ◌⊎◌, List, [], ◌∷◌, length, get_or, drop, Ok, Err, Result, sym, refl, ap, ◌∙◌, subst, inl, inr, arith, drop_of_length-le, eqb-true, MatchResult}
+use Rattle.std.proofs.Common.{◌≡◌, ℕ, ◌+◌, ◌<◌, ◌≤◌, true, ◌≢◌, ◌⊎◌, List, [], ◌∷◌, length, get_or, drop, Ok, Err, Result, sym, refl, ap, ◌∙◌, subst, inl, inr, arith, drop_of_length-le, eqb-true, MatchResult}
 use Rattle.analysis.specs.Ranks.{Claim}
 use Rattle.planfile.specs.declared.entry.Clock.{Clock as Factor}
 use Rattle.planfile.specs.declared.fault.Fault.{Fault}

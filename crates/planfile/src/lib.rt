@@ -1,4 +1,6 @@
 // Plan files: the bytes of a file to the rows of a table, and the report of it; or what is wrong with the file.
+#![tactic(auto)]
+
 ghost use Rattle.std.specs.Prelude.{◌≡◌, true};
 ghost use Rattle.planfile.specs.Figures.{PlanFigures};
 

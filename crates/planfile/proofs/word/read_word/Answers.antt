@@ -4,17 +4,17 @@ use Rattle.std.proofs.lemmas.Bool.Decides.{nat_tests}
 use Rattle.planfile.proofs.Words.{word_is}
 use Rattle.planfile.proofs.word.read_word.Goals as goal
 
-pub returns-in-99 : goal.returns-in-99
-returns-in-99 c = rw word_is (grind (arith, nat_tests))
+pub returns-in-clock : goal.returns-in-clock
+returns-in-clock c = rw word_is (grind (arith, nat_tests))
 
-pub returns-in-114 : goal.returns-in-114
-returns-in-114 c = rw word_is (grind (arith, nat_tests))
+pub returns-in-row : goal.returns-in-row
+returns-in-row c = rw word_is (grind (arith, nat_tests))
 
-pub returns-in-101 : goal.returns-in-101
-returns-in-101 c = rw word_is (grind (arith, nat_tests))
+pub returns-in-every : goal.returns-in-every
+returns-in-every c = rw word_is (grind (arith, nat_tests))
 
-pub returns-in-104 : goal.returns-in-104
-returns-in-104 c = rw word_is (grind (arith, nat_tests))
+pub returns-in-heavy : goal.returns-in-heavy
+returns-in-heavy c = rw word_is (grind (arith, nat_tests))
 
 pub returns-in_default : goal.returns-in_default
 returns-in_default c = rw word_is (grind (arith, nat_tests))
