@@ -7,7 +7,6 @@ use super::reading::{parts_of, read_plan, value_of};
 use anyhow::anyhow;
 use planfile::{REPORT_MEMORY, answer};
 use std::alloc::{AllocError, Global};
-use std::fmt;
 
 fn delay_of(layer: Layer) -> u32 {
     match layer {
@@ -17,7 +16,7 @@ fn delay_of(layer: Layer) -> u32 {
 }
 
 // The fields of a row line up to the delay.
-fn write_start(text: &mut String, row: &Plain) -> fmt::Result {
+fn write_start(text: &mut String, row: &Plain) -> Result<(), AllocError> {
     let number = row.number;
     let priority = row.priority;
     let suspension = row.suspension;
@@ -30,7 +29,7 @@ fn write_start(text: &mut String, row: &Plain) -> fmt::Result {
     )
 }
 
-fn write_sections(text: &mut String, row: &Plain) -> fmt::Result {
+fn write_sections(text: &mut String, row: &Plain) -> Result<(), AllocError> {
     for lock in 0..8usize {
         let section = row.sections[lock];
         write!(text, "\t{section}")?;
@@ -38,7 +37,7 @@ fn write_sections(text: &mut String, row: &Plain) -> fmt::Result {
     Ok(())
 }
 
-fn write_jobs(text: &mut String, jobs: Jobs) -> fmt::Result {
+fn write_jobs(text: &mut String, jobs: Jobs) -> Result<(), AllocError> {
     match jobs {
         Jobs::Every { job, period } => writeln!(text, "\tevery\t{job}\t{period}"),
         Jobs::Heavy {
@@ -50,7 +49,7 @@ fn write_jobs(text: &mut String, jobs: Jobs) -> fmt::Result {
     }
 }
 
-fn write_row(text: &mut String, row: &Plain) -> fmt::Result {
+fn write_row(text: &mut String, row: &Plain) -> Result<(), AllocError> {
     write_start(text, row)?;
     write_sections(text, row)?;
     write_jobs(text, row.kind.jobs)

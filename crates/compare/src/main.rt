@@ -1,4 +1,6 @@
 // Compares the planner with a brute force that is written apart from it, on sets of rows and plan files made at random.
+#![tactic(auto)]
+
 mod damage;
 mod files;
 mod making;

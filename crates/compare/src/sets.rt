@@ -9,7 +9,6 @@ use analysis::{JudgeRefusal, Row, Task, judge};
 use anyhow::anyhow;
 use demand::{Delayed, Either, Every, Heavy, Slowed};
 use std::alloc::{AllocError, Global};
-use std::fmt;
 
 // The jobs inside all layers, then one layer around them, then two.
 type Basic = Either<Every, Heavy>;
@@ -125,7 +124,7 @@ fn judged(heap: Global, set: &Passed) -> Result<Verdict, AllocError> {
     Ok(Verdict::InTime(found))
 }
 
-fn write_found(text: &mut String, found: &Found) -> fmt::Result {
+fn write_found(text: &mut String, found: &Found) -> Result<(), AllocError> {
     let number = found.number;
     let bound = found.bound;
     let vector = found.vector;
@@ -134,7 +133,7 @@ fn write_found(text: &mut String, found: &Found) -> fmt::Result {
 }
 
 // The rows of a report.
-pub(crate) fn write_report(text: &mut String, rows: &[Found]) -> fmt::Result {
+pub(crate) fn write_report(text: &mut String, rows: &[Found]) -> Result<(), AllocError> {
     for found in rows {
         write_found(text, found)?;
     }

@@ -1,4 +1,6 @@
 // Prints the name of each example plan file, and what `plan` prints for it.
+#![tactic(auto)]
+
 mod files;
 #[cfg(test)]
 mod tests;

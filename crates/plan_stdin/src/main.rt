@@ -1,4 +1,6 @@
 // Reads a plan file from standard input, and prints its report or the line of its refusal.
+#![tactic(auto)]
+
 mod help;
 
 use anyhow::anyhow;
