@@ -1,6 +1,6 @@
 // The kind that is one of two.
 ghost use Rattle.demand.specs.Made.{either_demand};
-ghost use Rattle.std.proofs.Common.{rules};
+ghost use Rattle.demand.specs.Laws.{either_lawful};
 
 use super::Kind;
 
@@ -14,7 +14,7 @@ pub enum Either<A, B> {
 impl<A: Kind, B: Kind> Kind for Either<A, B> {
     ghost demand = { either_demand A.Kind.demand B.Kind.demand };
 
-    ghost lawful = { Prim.search rules };
+    ghost lawful = { either_lawful A.Kind.demand B.Kind.demand A.Kind.lawful B.Kind.lawful };
 
     fn spacing(&self) -> u32 {
         match self {

@@ -2,7 +2,7 @@
 ghost use Rattle.std.specs.Prelude.{◌≡◌, IfOk};
 ghost use Rattle.demand.specs.Made.{delay_of, delayed_demand};
 ghost use Rattle.demand.specs.Refusals.{answer_number, delayed_checks, first};
-ghost use Rattle.std.proofs.Common.{rules};
+ghost use Rattle.demand.specs.Laws.{delayed_lawful};
 
 use super::{Kind, KindRefusal};
 
@@ -37,7 +37,7 @@ impl<K: Kind> Delayed<K> {
 impl<K: Kind> Kind for Delayed<K> {
     ghost demand = { delayed_demand K.Kind.demand };
 
-    ghost lawful = { Prim.search rules };
+    ghost lawful = { λ k. delayed_lawful k.delay (K.Kind.demand k.kind) (K.Kind.lawful k.kind) };
 
     fn spacing(&self) -> u32 {
         self.kind.spacing() - self.lateness()

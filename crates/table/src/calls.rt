@@ -116,7 +116,7 @@ impl<'a, K: Kind + Drop> Table<'a, K> {
 
     // Checks the numbers of a row.
     fn check_row(&self, row: &Row, kind: &K) -> Result<(), HoldRefusal>
-        ensures { (a : Account) → AgreesWith K.demand a self.now → check_number result ≡ first (row_checks a (record { row = row.entry.now; demand = K.demand kind.now })) }
+        ensures { (a : Account) → AgreesWith K.demand a self.now → check_number result ≡ first (row_checks a (record { row = row.now; demand = K.demand kind.now })) }
     {
         let number = (row.number == 0) | (255 < row.number) | self.has_number(row.number);
         let priority = (row.priority == 0) | (255 < row.priority) | self.has_priority(row.priority);
