@@ -1,4 +1,4 @@
-// Prints the name of each example plan file, and what `plan` prints for it.
+// Prints the name of each example plan file, and what `plan_stdin` prints for it.
 #![tactic(auto)]
 
 mod files;

@@ -35,7 +35,7 @@ fn run(rt: &HostRuntime) -> anyhow::Result<()> {
     match word {
         None => print_answer(rt)?,
         Some(word) if word.as_str() == "--help" && !more => rt.print(HELP)?,
-        Some(_) => return Err(anyhow!("plan takes no argument but --help")),
+        Some(_) => return Err(anyhow!("plan_stdin takes no argument but --help")),
     }
     Ok(())
 }

@@ -16,7 +16,7 @@ pub some_byte : (text : List ℕ) → ended text ≡ true → 0 < length text
 some_byte [] e = let z : ◌≡◌ {A = ℕ} 0 10 = eqb-true 0 10 e in omega arith
 some_byte (b ∷ bs) e = omega arith
 
--- what these lines give: `Lines-read` is this at the lines of a text
+-- what these lines give: `LinesRead` is this at the lines of a text
 abbrev Gives : List (List ℕ) → Result (List Claim) Blame → Type 0
 Gives ls r =
     (((first_blame (clock_checks (fields (get_or ls 0 [])))).number ≢ 0) × (r ≡ Err (at_line 1 (first_blame (clock_checks (fields (get_or ls 0 [])))))))
