@@ -6,7 +6,6 @@ pub mod Blocked
 pub mod Settled
 pub mod SomeRanked
 pub mod Removal
-pub mod Back
 pub mod Summed
 pub mod Jumps
 pub mod Rising
@@ -18,3 +17,4 @@ pub mod Verdicts
 pub mod Tested
 pub mod Garage
 pub mod AnyOrder
+pub mod Greatest

@@ -1,10 +1,9 @@
 -- The tasks that are judged together, by their places. Assumes nothing.
-use Rattle.std.specs.Prelude.{◌≡◌, ℕ, ◌+◌, ◌≤◌, cond, List, [], ◌∷◌, ◌++◌, map, length, take, Some, None, Option, nat_lt, slice_index_or}
+use Rattle.std.specs.Prelude.{◌≡◌, ℕ, ◌+◌, cond, List, [], ◌∷◌, ◌++◌, map, length, Some, None, Option, nat_lt, slice_index_or}
 use Rattle.demand.specs.Demand.{Demand}
 use Rattle.analysis.specs.declared.Task.{Task}
 use Rattle.analysis.specs.declared.Higher.{Higher}
 use Rattle.analysis.specs.declared.Rank.{Rank}
-use Rattle.analysis.specs.declared.ranking.Ranking.{Ranking}
 use Rattle.analysis.specs.Places.{priority_of}
 use Rattle.analysis.specs.Cover.{Above, interference}
 use Rattle.analysis.specs.Ranks.{Claim, rank_in, ranked}
@@ -50,8 +49,6 @@ module _ {K : Type 0} where
   rank_task None place ranks = ranks
   rank_task (Some t) place ranks = rank_in priority_of (record { row = t.row; place = place }) ranks
 
-  -- the ranking holds all that are judged together, highest first
-  pub record RanksAll (demand : K → Demand) (places : List (Option (Task K))) (newcomer : Option (Task K)) (k : Ranking) : Type 0 where
-    pub few : k.count ≤ 12
-    pub len : length k.ranks ≡ 12
-    pub ranks : map (claim_of demand places newcomer) (take k.count k.ranks) ≡ ranked (claims demand places newcomer)
+  -- these ranks have all that are judged together, highest first
+  abbrev pub RanksAll : (K → Demand) → List (Option (Task K)) → Option (Task K) → List Rank → Type 0
+  RanksAll demand places newcomer ranks = map (claim_of demand places newcomer) ranks ≡ ranked (claims demand places newcomer)

@@ -72,10 +72,11 @@ pub record SomeLate (cs : List Claim) (n : ℕ) : Type 0 where
   pub first : LateRow (loads (ranked cs)) n
   pub no_plan : NoPlan (system_of cs)
 
--- what is answered for ranked rows
-abbrev pub RanksJudged : List Claim → Result Answers ℕ → Type 0
+-- what is answered for ranked rows, of which there are never too many
+abbrev pub RanksJudged : List Claim → Result Answers JudgeRefusal → Type 0
 RanksJudged cs (Ok a) = Answered (loads cs) (answers_of a)
-RanksJudged cs (Err n) = LateRow (loads cs) n
+RanksJudged cs (Err TooMany) = ⊥
+RanksJudged cs (Err (Late n)) = LateRow (loads cs) n
 
 -- what the judgement of these rows is
 abbrev pub Judged : List Claim → Result Answers JudgeRefusal → Type 0

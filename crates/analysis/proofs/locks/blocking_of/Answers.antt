@@ -1,19 +1,23 @@
-use Rattle.std.proofs.Common.{get_or, None, sym, ap, arith}
-use Rattle.std.proofs.lemmas.List.{drop_all}
-use Rattle.analysis.specs.Locks.{longest}
-use Rattle.analysis.specs.Places.{no_rank, ranked_rows}
-use Rattle.analysis.proofs.Back.{back}
+use Rattle.std.proofs.Common.{ℕ, ◌+◌, ◌*◌, get_or, None, Option, sym, ap, ◌∙◌, ap₂, rules}
+use borrow.Author.Tests.{tests}
+use Rattle.std.specs.Option.{unwrap_or}
+use Rattle.std.proofs.lemmas.Iterator.{YieldsList-from_slice, YieldsList-from_map}
+use Rattle.std.proofs.lemmas.Iterator.Adapters.{option_map_id}
+use Rattle.std.proofs.lemmas.Iterator.Consumers.{max_from_yields_List}
+use Rattle.analysis.specs.declared.Rank.{Rank}
+use Rattle.analysis.specs.Locks.{longest_of}
+use Rattle.analysis.proofs.Greatest.{longest_is}
 use Rattle.analysis.proofs.locks.blocking_of.Goals as goal
 
-pub loop-i-init : goal.loop-i-init
-loop-i-init c = (
-  sym
-      (ap (λ xs. longest (λ n. get_or c.args.ceilings.now n None) c.args.row.now.priority (ranked_rows xs))
-      (drop_all _ c.args.lower.now (omega arith))),
-  omega arith,
-)
-
-pub loop-i-preserved : goal.loop-i-preserved
-loop-i-preserved c =
-    let before = ap (λ xs. longest (λ n. get_or c.args.ceilings.now n None) c.args.row.now.priority (ranked_rows xs)) (back c.args.lower.now c.loop-i.i no_rank (omega arith) (omega arith)) in
-    (cc (before, c.max-longest.ensures, c.longest_section.ensures, c.loop-i.invariant.0), omega arith)
+pub returns-clause-value : goal.returns-clause-value
+returns-clause-value c =
+    let ceilings : ℕ → Option ℕ = λ lock. get_or c.args.ceilings.now lock None in
+    ap₂ (λ m n. (m + 1) * n) c.from.ensures
+    (c.from-2.ensures
+    ∙ c.unwrap_or-longest.ensures
+    ∙ ap (λ (o : Option ℕ). unwrap_or o 0)
+    (sym (option_map_id _)
+    ∙ max_from_yields_List _ _ c.max.ensures.ran
+    (YieldsList-from_map _ (λ (r : Rank). longest_of ceilings c.args.row.now.priority r.row 8) (YieldsList-from_slice c.args.lower.now cc) c.map.ensures.closure
+    (λ x r q k. search (rules, tests))))
+    ∙ longest_is ceilings c.args.row.now.priority c.args.lower.now)
