@@ -1,6 +1,6 @@
 -- The covering sum, added up from the row just above to the highest. Assumes nothing.
-use Rattle.std.proofs.Common.{◌≡◌, ℕ, ◌+◌, ◌-◌, ◌/◌, ◌^◌, ◌<◌, min, cond, List, [], ◌∷◌, ◌++◌, map, length, sym, ap, ◌∙◌, subst, append_assoc, div-one, arith}
-use Rattle.std.proofs.lemmas.List.{length-append, append-nil}
+use Rattle.std.proofs.Common.{◌≡◌, ℕ, ◌+◌, ◌-◌, ◌/◌, ◌^◌, min, cond, List, [], ◌∷◌, ◌++◌, map, length, sym, ap, ◌∙◌, subst, append_assoc, arith}
+use Rattle.std.proofs.lemmas.List.{length-append}
 use Rattle.std.proofs.lemmas.Nat.{shr-shr}
 use Rattle.demand.specs.Demand.{window}
 use Rattle.analysis.specs.declared.Higher.{Higher}
@@ -31,10 +31,6 @@ module _ (above : Higher → Above) (higher : List Higher) (v t alone : ℕ) whe
     pub parts : higher ≡ left ++ taken
     pub sums : Summed (map above taken) (v / 2 ^ length left) t alone w n
 
-  pub none_taken : (left : List Higher) → left ≡ higher → alone < 2 ^ 64 → Behind left 0 alone
-  none_taken left e fits =
-      record { taken = []; parts = sym (append-nil left ∙ e); sums = record { waited = omega arith; needed = omega arith } }
-
   -- the last of those that are left is taken, the row of this index
   pub behind_more : (left fewer : List Higher) (x : Higher) (i w n y m : ℕ) → left ≡ fewer ++ x ∷ [] → i ≡ length fewer → Behind left w n → y ≡ held (w + cond (chosen (v / 2 ^ i)) (above x).wait 0) → m ≡ held (n + (above x).work (window ((t + y) + cond (chosen (v / 2 ^ i)) 0 (above x).jitter))) → Behind fewer y m
   behind_more left fewer x i w n y m e at b f g =
@@ -47,12 +43,3 @@ module _ (above : Higher → Above) (higher : List Higher) (v t alone : ℕ) whe
             subst (λ (k : ℕ). Summed (map above (x ∷ b.taken)) (v / 2 ^ k) t alone y m) at
             (summed_more (above x) (map above b.taken) (v / 2 ^ i) t alone w n y m (subst (λ (u : ℕ). Summed (map above b.taken) u t alone w n) halved b.sums) f g);
       }
-
-  -- where none is left, the sums are over all
-  pub all_taken : (left : List Higher) (w n : ℕ) → left ≡ [] → Behind left w n → n ≡ held (alone + interference (map above higher) v t)
-  all_taken left w n e b =
-      let whole : higher ≡ b.taken = b.parts ∙ ap (λ (xs : List Higher). xs ++ b.taken) e in
-      let vector : v / 2 ^ length left ≡ v = ap (λ (xs : List Higher). v / 2 ^ length xs) e ∙ div-one v in
-      b.sums.needed
-      ∙ ap (λ (u : ℕ). held (alone + interference (map above b.taken) u t)) vector
-      ∙ ap (λ (xs : List Higher). held (alone + interference (map above xs) v t)) (sym whole)
