@@ -1,6 +1,6 @@
 use Rattle.std.proofs.Common.{◌∙◌, arith}
 use Rattle.analysis.proofs.Summed.{behind_more}
-use Rattle.analysis.proofs.candidates.Candidates.need_by.Goals as goal
+use Rattle.analysis.proofs.cover.need_by.Goals as goal
 
 pub loop-i-preserved : goal.loop-i-preserved
 loop-i-preserved g c =

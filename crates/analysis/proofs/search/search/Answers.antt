@@ -3,17 +3,17 @@ use Rattle.std.proofs.lemmas.Nat.{one_shl}
 use Rattle.analysis.specs.Candidates.{need_with}
 use Rattle.analysis.proofs.Jumps.{NoneAmong, jump, covered, uncovered}
 use Rattle.analysis.proofs.Rising.{need_rises}
-use Rattle.analysis.proofs.candidates.Candidates.search.Goals as goal
+use Rattle.analysis.proofs.search.search.Goals as goal
 
 pub windows-preserved : goal.windows-preserved
 windows-preserved g c =
-    let needed : ℕ → ℕ → ℕ = need_with g.K.Kind.demand c.args.self.now.places.now c.args.self.now.newcomer.now c.args.higher.now.items c.args.alone in
+    let needed : ℕ → ℕ → ℕ = need_with g.K.Kind.demand c.args.higher.now.items c.args.alone in
     let all = one_shl c.len.result 32 (omega arith) in
     let same = ap (λ (n : ℕ). 2 ^ n) c.len.ensures.value in
     let among : NoneAmong needed (2 ^ length c.args.higher.now.items) c.windows.window c.vectors.next = λ v h. c.vectors.invariant.1 v (omega arith) in (
       omega arith,
       jump needed (2 ^ length c.args.higher.now.items) c.windows.window c.vectors.next
-          (need_rises g.K.Kind.demand g.met.K.Kind.lawful c.args.self.now.places.now c.args.self.now.newcomer.now c.args.higher.now.items c.args.alone)
+          (need_rises g.K.Kind.demand g.met.K.Kind.lawful c.args.higher.now.items c.args.alone)
           c.windows.invariant.1 among,
     )
 
@@ -22,7 +22,7 @@ returns-then-window-from g c = uncovered _ c.args.deadline (2 ^ length c.args.hi
 
 pub returns-then-need-window : goal.returns-then-need-window
 returns-then-need-window g c =
-    let needed : ℕ → ℕ → ℕ = need_with g.K.Kind.demand c.args.self.now.places.now c.args.self.now.newcomer.now c.args.higher.now.items c.args.alone in
+    let needed : ℕ → ℕ → ℕ = need_with g.K.Kind.demand c.args.higher.now.items c.args.alone in
     let all = one_shl c.len.result 32 (omega arith) in
     let same = ap (λ (n : ℕ). 2 ^ n) c.len.ensures.value in
     let need_now : needed c.vectors.vector c.windows.window ≤ c.windows.window = omega arith in

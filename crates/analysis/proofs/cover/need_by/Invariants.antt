@@ -3,9 +3,9 @@ use Rattle.std.specs.Iterator.Adapters.{enumerate_count, enumerate_source, rev_s
 use Rattle.std.specs.Slice.Iter.{iter_rest}
 use Rattle.analysis.specs.Candidates.{above_of}
 use Rattle.analysis.proofs.Summed.{Behind}
-use Rattle.analysis.proofs.candidates.Candidates.need_by.Given as goal
+use Rattle.analysis.proofs.cover.need_by.Given as goal
 
 abbrev pub invariant-loop-i : goal.invariant-loop-i
 invariant-loop-i g l =
     (enumerate_count (rev_source l.i-iterator) ≡ 0)
-    × Behind (above_of g.K.Kind.demand l.self.places.now l.self.newcomer.now) l.higher.items l.vector l.window l.alone (iter_rest (enumerate_source (rev_source l.i-iterator))) l.sum.waits l.sum.need
+    × Behind (above_of g.K.Kind.demand) l.higher.items l.vector l.window l.alone (iter_rest (enumerate_source (rev_source l.i-iterator))) l.sum.waits l.sum.need
