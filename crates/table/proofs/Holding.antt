@@ -1,5 +1,5 @@
 -- How a hold is refused or accepted. Assumes nothing.
-use Rattle.std.proofs.Common.{◌≡◌, ℕ, ◌<◌, ◌≤◌, Bool, true, false, cond, leb, List, [], ◌∷◌, ◌++◌, length, take, Some, Err, Option, sym, refl, ap, ◌∙◌, subst, arith, ne_eqb}
+use Rattle.std.proofs.Common.{◌≡◌, ℕ, ◌<◌, ◌≤◌, Bool, true, false, cond, leb, List, [], ◌∷◌, ◌++◌, length, take, Some, Err, sym, refl, ap, ◌∙◌, subst, arith, ne_eqb}
 use Rattle.demand.specs.Demand.{Demand}
 use Rattle.analysis.specs.declared.Task.{Task}
 use Rattle.analysis.specs.declared.judgement.JudgeRefusal.{JudgeRefusal}
@@ -11,8 +11,8 @@ use Rattle.analysis.specs.Ranks.{Claim, ranked, loads}
 use Rattle.table.specs.declared.HoldRefusal.{HoldRefusal}
 use Rattle.table.specs.declared.HoldRefusal.TheVariants.{NoPlace, Late}
 use Rattle.table.specs.Account.{Account, row_checks, hold_checks, hold_number, Refused, as_refusal}
-use Rattle.table.specs.Agreement.{Agrees}
-use Rattle.table.specs.declared.State.{State}
+use Rattle.table.specs.Agreement.{AgreesWith}
+use Rattle.table.specs.declared.Table.{Table}
 use Rattle.table.proofs.Judgements.{newcomer_late, never_too_many}
 use Rattle.table.proofs.Shared.{Numbered, not_taken, at_least_five}
 
@@ -74,7 +74,7 @@ module _ (a : Account) (c : Claim) where
   refused_late n z l = record { by_number = z; late = λ q. l }
 
 -- a newcomer that is judged to be late
-pub refused_judged : {K : Type 0} (demand : K → Demand) (a : Account) (number : ℕ) (states : List State) (places : List (Option (Task K))) → Agrees demand a number states places → (t : Task K) → first (hold_checks a (record { row = t.row; demand = demand t.kind })) ≡ 0 → (j : JudgeRefusal) → Judged (claims demand (take 12 places) (Some t)) (Err j) → Refused a (record { row = t.row; demand = demand t.kind }) (as_refusal j)
-refused_judged demand a number states places agrees t z TooMany judged = absurd (never_too_many demand a number states places agrees t z judged)
-refused_judged demand a number states places agrees t z (JudgedLate n) judged =
-    refused_late a (record { row = t.row; demand = demand t.kind }) n z (newcomer_late demand a number states places agrees t z n judged)
+pub refused_judged : {K : Type 0} {demand : K → Demand} {a : Account} (t : Table K) → AgreesWith demand a t → (u : Task K) → first (hold_checks a (record { row = u.row; demand = demand u.kind })) ≡ 0 → (j : JudgeRefusal) → Judged (claims demand (take 12 t.places.now) (Some u)) (Err j) → Refused a (record { row = u.row; demand = demand u.kind }) (as_refusal j)
+refused_judged t agrees u z TooMany judged = absurd (never_too_many t agrees u z judged)
+refused_judged {demand = demand} {a = a} t agrees u z (JudgedLate n) judged =
+    refused_late a (record { row = u.row; demand = demand u.kind }) n z (newcomer_late t agrees u z n judged)

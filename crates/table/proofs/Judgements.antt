@@ -2,6 +2,7 @@
 use Rattle.std.proofs.Common.{◌≡◌, ℕ, zero, suc, ◌<◌, Bool, true, false, cond, ◌||◌, eqb, ◌≢◌, List, [], ◌∷◌, ◌++◌, length, get_or, take, Some, None, Ok, Err, Option, Result, sym, refl, ap, ◌∙◌, subst, true≢false, arith, length-take, ne_eqb, eqb-true}
 use mathlib.Core.Bool.{false≢true}
 use borrow.Author.Tests.{eqb-false}
+use Rattle.std.specs.Option.{ok_or}
 use Rattle.std.proofs.lemmas.List.{append-nil}
 use Rattle.demand.specs.Demand.{Demand}
 use Rattle.demand.specs.Refusals.{first}
@@ -11,9 +12,10 @@ use Rattle.analysis.specs.declared.Answer.{Answer}
 use Rattle.analysis.specs.declared.Row.{Row}
 use Rattle.analysis.specs.Plans.{Bounds, NoPlan}
 use Rattle.analysis.specs.Ranks.{Claim, Reordered, next, through, ranked, rows, loads_of, loads, at, system, system_of}
-use Rattle.table.specs.declared.State.{State}
-use Rattle.table.specs.Account.{Account, number_of, has_number, hold_checks, AllInTime, BoundOf}
-use Rattle.table.specs.Agreement.{Agrees}
+use Rattle.table.specs.declared.Table.{Table}
+use Rattle.table.specs.Account.{Account, number_of, has_number, hold_checks, AllInTime, BoundsAnswered}
+use Rattle.table.specs.declared.BoundRefusal.TheVariants.{NoSuchRow}
+use Rattle.table.specs.Agreement.{AgreesWith}
 use Rattle.table.specs.Places.{answer_of}
 use Rattle.analysis.specs.declared.answers.Answers.{Answers}
 use Rattle.analysis.specs.declared.judgement.JudgeRefusal.{JudgeRefusal}
@@ -80,92 +82,90 @@ no_answer_at n (x ∷ rest) e k l = go (eqb x.number n) refl e (no_answer_at n r
     go false h f further zero m = eqb-false x.number n h
     go false h f further (suc i) m = further f i (omega arith)
 
-module _ {K : Type 0} (demand : K → Demand) (a : Account) (number : ℕ) (states : List State) (places : List (Option (Task K))) (agrees : Agrees demand a number states places) where
+module _ {K : Type 0} {demand : K → Demand} {a : Account} (t : Table K) (agrees : AgreesWith demand a t) where
   abbrev pub claim_of_task : Task K → Claim
-  claim_of_task t = record { row = t.row; demand = demand t.kind }
+  claim_of_task u = record { row = u.row; demand = demand u.kind }
 
   -- those at the places are the account's rows
-  same_claims : claims demand (take 12 places) None ≡ claims_of demand (take 12 places)
-  same_claims = claims_append demand (take 12 places) (None ∷ []) ∙ append-nil (claims_of demand (take 12 places))
+  same_claims : claims demand (take 12 t.places.now) None ≡ claims_of demand (take 12 t.places.now)
+  same_claims = claims_append demand (take 12 t.places.now) (None ∷ []) ∙ append-nil (claims_of demand (take 12 t.places.now))
 
-  rows_reordered : Reordered a.rows (claims demand (take 12 places) None)
+  rows_reordered : Reordered a.rows (claims demand (take 12 t.places.now) None)
   rows_reordered = subst (Reordered a.rows) (sym same_claims) (reordered_back agrees.rows_are)
 
-  same_ranked : ranked (claims demand (take 12 places) None) ≡ ranked a.rows
-  same_ranked = any_order a.rows (claims demand (take 12 places) None) rows_reordered agrees.sound.priorities
+  same_ranked : ranked (claims demand (take 12 t.places.now) None) ≡ ranked a.rows
+  same_ranked = any_order a.rows (claims demand (take 12 t.places.now) None) rows_reordered agrees.sound.priorities
 
-  newcomer_reordered : (t : Task K) → Reordered (claim_of_task t ∷ a.rows) (claims demand (take 12 places) (Some t))
-  newcomer_reordered t =
-      let front : Reordered (claims_of demand (take 12 places) ++ claim_of_task t ∷ []) (claim_of_task t ∷ claims_of demand (take 12 places)) = subst (λ (xs : List Claim). Reordered (claims_of demand (take 12 places) ++ claim_of_task t ∷ []) (claim_of_task t ∷ xs)) (append-nil (claims_of demand (take 12 places))) (to_front (claims_of demand (take 12 places)) (claim_of_task t) []) in
-      subst (Reordered (claim_of_task t ∷ a.rows)) (sym (claims_append demand (take 12 places) (Some t ∷ [])))
+  newcomer_reordered : (u : Task K) → Reordered (claim_of_task u ∷ a.rows) (claims demand (take 12 t.places.now) (Some u))
+  newcomer_reordered u =
+      let front : Reordered (claims_of demand (take 12 t.places.now) ++ claim_of_task u ∷ []) (claim_of_task u ∷ claims_of demand (take 12 t.places.now)) = subst (λ (xs : List Claim). Reordered (claims_of demand (take 12 t.places.now) ++ claim_of_task u ∷ []) (claim_of_task u ∷ xs)) (append-nil (claims_of demand (take 12 t.places.now))) (to_front (claims_of demand (take 12 t.places.now)) (claim_of_task u) []) in
+      subst (Reordered (claim_of_task u ∷ a.rows)) (sym (claims_append demand (take 12 t.places.now) (Some u ∷ [])))
       (reordered_back (through front (next agrees.rows_are)))
 
-  newcomer_ranked : (t : Task K) → first (hold_checks a (claim_of_task t)) ≡ 0 → ranked (claims demand (take 12 places) (Some t)) ≡ ranked (claim_of_task t ∷ a.rows)
-  newcomer_ranked t passes =
-      any_order (claim_of_task t ∷ a.rows) (claims demand (take 12 places) (Some t)) (newcomer_reordered t)
-      ((passed a (claim_of_task t) passes).priority, agrees.sound.priorities)
+  newcomer_ranked : (u : Task K) → first (hold_checks a (claim_of_task u)) ≡ 0 → ranked (claims demand (take 12 t.places.now) (Some u)) ≡ ranked (claim_of_task u ∷ a.rows)
+  newcomer_ranked u passes =
+      any_order (claim_of_task u ∷ a.rows) (claims demand (take 12 t.places.now) (Some u)) (newcomer_reordered u)
+      ((passed a (claim_of_task u) passes).priority, agrees.sound.priorities)
 
   -- a newcomer that passes the checks is late or in time with the account's rows as with the table's
-  pub newcomer_late : (t : Task K) → first (hold_checks a (claim_of_task t)) ≡ 0 → (n : ℕ) → Judged (claims demand (take 12 places) (Some t)) (Err (Late n)) → LateRow (loads (ranked (claim_of_task t ∷ a.rows))) n
-  newcomer_late t passes n judged = subst (λ (cs : List Claim). LateRow (loads cs) n) (newcomer_ranked t passes) judged.first
+  pub newcomer_late : (u : Task K) → first (hold_checks a (claim_of_task u)) ≡ 0 → (n : ℕ) → Judged (claims demand (take 12 t.places.now) (Some u)) (Err (Late n)) → LateRow (loads (ranked (claim_of_task u ∷ a.rows))) n
+  newcomer_late u passes n judged = subst (λ (cs : List Claim). LateRow (loads cs) n) (newcomer_ranked u passes) judged.first
 
-  pub newcomer_in_time : (t : Task K) → first (hold_checks a (claim_of_task t)) ≡ 0 → (answers : Answers) → Judged (claims demand (take 12 places) (Some t)) (Ok answers) → AllInTime (claim_of_task t ∷ a.rows)
-  newcomer_in_time t passes answers judged =
-      let count : length (loads (ranked (claims demand (take 12 places) (Some t)))) ≡ length (claim_of_task t ∷ a.rows) = length_ranks (claims demand (take 12 places) (Some t)) ∙ sym (length_reordered (newcomer_reordered t)) in
+  pub newcomer_in_time : (u : Task K) → first (hold_checks a (claim_of_task u)) ≡ 0 → (answers : Answers) → Judged (claims demand (take 12 t.places.now) (Some u)) (Ok answers) → AllInTime (claim_of_task u ∷ a.rows)
+  newcomer_in_time u passes answers judged =
+      let count : length (loads (ranked (claims demand (take 12 t.places.now) (Some u)))) ≡ length (claim_of_task u ∷ a.rows) = length_ranks (claims demand (take 12 t.places.now) (Some u)) ∙ sym (length_reordered (newcomer_reordered u)) in
       record {
         R = bounds_of (answers_of answers);
         V = vectors_of (answers_of answers);
-        bounds = subst (λ (n : ℕ). Bounds (system_of (claim_of_task t ∷ a.rows)) n (bounds_of (answers_of answers)) (vectors_of (answers_of answers))) count
-            (subst (λ (cs : List Claim). Bounds (system (loads cs)) (length (loads (ranked (claims demand (take 12 places) (Some t))))) (bounds_of (answers_of answers)) (vectors_of (answers_of answers))) (newcomer_ranked t passes) judged.answered.bounds);
+        bounds = subst (λ (n : ℕ). Bounds (system_of (claim_of_task u ∷ a.rows)) n (bounds_of (answers_of answers)) (vectors_of (answers_of answers))) count
+            (subst (λ (cs : List Claim). Bounds (system (loads cs)) (length (loads (ranked (claims demand (take 12 t.places.now) (Some u))))) (bounds_of (answers_of answers)) (vectors_of (answers_of answers))) (newcomer_ranked u passes) judged.answered.bounds);
       }
 
   -- twelve rows at most
-  pub never_too_many : (t : Task K) → first (hold_checks a (claim_of_task t)) ≡ 0 → Judged (claims demand (take 12 places) (Some t)) (Err TooMany) → ⊥
-  never_too_many t passes judged =
-      let room = (passed a (claim_of_task t) passes).room in
+  pub never_too_many : (u : Task K) → first (hold_checks a (claim_of_task u)) ≡ 0 → Judged (claims demand (take 12 t.places.now) (Some u)) (Err TooMany) → ⊥
+  never_too_many u passes judged =
+      let room = (passed a (claim_of_task u) passes).room in
       let few = agrees.room_is in
-      let count = length_reordered (newcomer_reordered t) in
+      let count = length_reordered (newcomer_reordered u) in
       omega arith
 
   -- the account's rows are in time, so they are never refused
-  pub never_refused : (e : JudgeRefusal) → Judged (claims demand (take 12 places) None) (Err e) → ⊥
+  pub never_refused : (e : JudgeRefusal) → Judged (claims demand (take 12 t.places.now) None) (Err e) → ⊥
   never_refused TooMany judged =
       let count = length_reordered rows_reordered in
-      let few = claims_at_most demand (take 12 places) in
+      let few = claims_at_most demand (take 12 t.places.now) in
       let all = length_reordered agrees.rows_are in
-      let twelve = length-take 12 places in
+      let twelve = length-take 12 t.places.now in
       omega arith
   never_refused (Late n) judged =
       has_plan a.rows agrees.sound.lawful agrees.sound.in_time
       (subst (λ (cs : List Claim). NoPlan (system (loads cs))) same_ranked judged.no_plan)
 
-  pub bound_found : (answers : Answers) → Judged (claims demand (take 12 places) None) (Ok answers) → (n t v : ℕ) → answer_of n (answers_of answers) ≡ Some (t, v) → BoundOf a.rows n t v
-  bound_found answers judged n t v found =
-      let there = answer_at n t v (answers_of answers) found in
-      let ranks = subst (λ (cs : List Claim). Answered (loads cs) (answers_of answers)) same_ranked judged.answered in
+  -- all rows are answered
+  pub all_listed : (r : Result Answers JudgeRefusal) → Judged (claims demand (take 12 t.places.now) None) r → (all : Answers) × (r ≡ Ok all) × Answered (loads (ranked a.rows)) (answers_of all)
+  all_listed (Ok all) judged = (all, refl, subst (λ (cs : List Claim). Answered (loads cs) (answers_of all)) same_ranked judged.answered)
+  all_listed (Err e) judged = absurd (never_refused e judged)
+
+-- what is found among the answers for all rows is what the account answers
+module _ (a : Account) (answers : List Answer) (ranks : Answered (loads (ranked a.rows)) answers) (n : ℕ) where
+  pub bound_found : (r : Option (ℕ × ℕ)) → r ≡ answer_of n answers → BoundsAnswered a n (ok_or r NoSuchRow)
+  bound_found (Some p) found =
+      let there = answer_at n p.0 p.1 answers (sym found) in
       let count : length (loads (ranked a.rows)) ≡ length a.rows = length_ranks a.rows in
       let inside : there.rank < length (loads (ranked a.rows)) = let l = there.within in let e = ranks.count in omega arith in
       record {
         rank = there.rank;
         within = omega arith;
         number = sym (ranks.rows there.rank inside).number ∙ there.number;
-        R = bounds_of (answers_of answers);
-        V = vectors_of (answers_of answers);
-        bounds = subst (λ (m : ℕ). Bounds (system_of a.rows) m (bounds_of (answers_of answers)) (vectors_of (answers_of answers))) count ranks.bounds;
+        R = bounds_of answers;
+        V = vectors_of answers;
+        bounds = subst (λ (m : ℕ). Bounds (system_of a.rows) m (bounds_of answers) (vectors_of answers)) count ranks.bounds;
         bound = there.bound;
         vector = there.vector;
       }
-
-  pub no_bound_found : (answers : Answers) → Judged (claims demand (take 12 places) None) (Ok answers) → (n : ℕ) → answer_of n (answers_of answers) ≡ None → has_number n a.rows ≡ false
-  no_bound_found answers judged n found =
-      let ranks = subst (λ (cs : List Claim). Answered (loads cs) (answers_of answers)) same_ranked judged.answered in
+  bound_found None found =
       let count : length (loads (ranked a.rows)) ≡ length a.rows = length_ranks a.rows in
       let ranked_count = length_ranked a.rows in
       let many = ranks.count in
       number_reordered n (highest_first a.rows).reordered
-      ∙ none_numbered n (rows (ranked a.rows)) (ranked a.rows) (λ k l e. no_answer_at n (answers_of answers) found k (omega arith) ((ranks.rows k (omega arith)).number ∙ e))
-
-  -- all rows are answered
-  pub all_listed : (r : Result Answers JudgeRefusal) → Judged (claims demand (take 12 places) None) r → (all : Answers) × (r ≡ Ok all) × Answered (loads (ranked a.rows)) (answers_of all)
-  all_listed (Ok all) judged = (all, refl, subst (λ (cs : List Claim). Answered (loads cs) (answers_of all)) same_ranked judged.answered)
-  all_listed (Err e) judged = absurd (never_refused e judged)
+      ∙ none_numbered n (rows (ranked a.rows)) (ranked a.rows) (λ k l e. no_answer_at n answers (sym found) k (omega arith) ((ranks.rows k (omega arith)).number ∙ e))

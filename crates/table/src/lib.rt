@@ -16,7 +16,7 @@ use analysis::Task;
 pub const MOST_ROWS: usize = 12;
 
 // What stands at a place: nothing, or a row that is held or kept, by its number.
-#[derive(Clone, Copy)]
+#[derive(Clone, Copy, PartialEq, Eq, Debug)]
 pub enum State {
     Free,
     Held(u32),
@@ -27,7 +27,7 @@ pub enum State {
 #[derive(Drop)]
 pub struct Table<'a, K> {
     number: u8,
-    states: [State; 12],
+    states: [State; MOST_ROWS],
     places: &'a mut [Option<Task<K>>],
 }
 
