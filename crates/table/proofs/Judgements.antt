@@ -1,9 +1,9 @@
 -- What the judgement of the rows at the places says of the account. Assumes nothing.
-use Rattle.std.proofs.Common.{◌≡◌, ℕ, zero, suc, ◌<◌, Bool, true, false, cond, ◌||◌, eqb, ◌≢◌, List, [], ◌∷◌, ◌++◌, length, get_or, take, Some, None, Ok, Err, Option, Result, sym, refl, ap, ◌∙◌, subst, true≢false, arith, length-take, ne_eqb, eqb-true}
-use mathlib.Core.Bool.{false≢true}
-use borrow.Author.Tests.{eqb-false}
+use Rattle.std.proofs.Common.{◌≡◌, ℕ, zero, suc, ◌<◌, Bool, false, ◌||◌, eqb, ◌≢◌, List, [], ◌∷◌, ◌++◌, length, get_or, take, Some, None, Ok, Err, Option, Result, sym, refl, ap, ◌∙◌, subst, inl, inr, arith, length-take, ne_eqb, eqb-true}
 use Rattle.std.specs.Option.{ok_or}
+use Rattle.std.proofs.lemmas.Bool.{cases_Bool, eq-eqb}
 use Rattle.std.proofs.lemmas.List.{append-nil}
+use Rattle.std.proofs.lemmas.Option.{some_pair_parts}
 use Rattle.demand.specs.Demand.{Demand}
 use Rattle.demand.specs.Refusals.{first}
 use Rattle.analysis.specs.declared.Task.{Task}
@@ -34,14 +34,6 @@ none_numbered n all (c ∷ cs) h =
     ap (λ (b : Bool). b || has_number n cs) (ne_eqb (number_of c) n (h 0 (omega arith)))
     ∙ none_numbered n all cs (λ k l. h (suc k) (omega arith))
 
-abbrev pair_in : Option (ℕ × ℕ) → ℕ × ℕ
-pair_in None = (0, 0)
-pair_in (Some p) = p
-
-abbrev is_some : Option (ℕ × ℕ) → Bool
-is_some None = false
-is_some (Some p) = true
-
 -- the answer for the number n is one of the answers
 record AnswerAt (n t v : ℕ) (answers : List Answer) : Type 0 where
   rank : ℕ
@@ -51,36 +43,23 @@ record AnswerAt (n t v : ℕ) (answers : List Answer) : Type 0 where
   vector : v ≡ vectors_of answers rank
 
 answer_at : (n t v : ℕ) (answers : List Answer) → answer_of n answers ≡ Some (t, v) → AnswerAt n t v answers
-answer_at n t v [] e = absurd (false≢true (ap is_some e))
-answer_at n t v (x ∷ rest) e = go (eqb x.number n) refl e (answer_at n t v rest)
-  where
-    go : (b : Bool) → eqb x.number n ≡ b → cond b (Some (x.bound, x.vector)) (answer_of n rest) ≡ Some (t, v) → (answer_of n rest ≡ Some (t, v) → AnswerAt n t v rest) → AnswerAt n t v (x ∷ rest)
-    go true h f further =
-        record {
-          rank = 0;
-          within = omega arith;
-          number = eqb-true x.number n h;
-          bound = sym (ap (λ (o : Option (ℕ × ℕ)). (pair_in o).0) f);
-          vector = sym (ap (λ (o : Option (ℕ × ℕ)). (pair_in o).1) f);
-        }
-    go false h f further =
-        let behind = further f in
-        record {
-          rank = suc behind.rank;
-          within = let l = behind.within in omega arith;
-          number = behind.number;
-          bound = behind.bound;
-          vector = behind.vector;
-        }
+answer_at n t v [] e = cc
+answer_at n t v (x ∷ rest) e = elim (cases_Bool (eqb x.number n)) [
+  | inl h ↦
+      let here = some_pair_parts x.bound t x.vector v (rw h at e) in
+      record { rank = 0; within = omega arith; number = eqb-true x.number n h; bound = sym here.0; vector = sym here.1 }
+  | inr h ↦
+      let behind = answer_at n t v rest (rw h at e) in
+      record { rank = suc behind.rank; within = let l = behind.within in omega arith; number = behind.number; bound = behind.bound; vector = behind.vector }
+]
 
 no_answer_at : (n : ℕ) (answers : List Answer) → answer_of n answers ≡ None → (k : ℕ) → k < length answers → (get_or answers k no_answer).number ≢ n
 no_answer_at n [] e k l = omega arith
-no_answer_at n (x ∷ rest) e k l = go (eqb x.number n) refl e (no_answer_at n rest) k l
-  where
-    go : (b : Bool) → eqb x.number n ≡ b → cond b (Some (x.bound, x.vector)) (answer_of n rest) ≡ None → (answer_of n rest ≡ None → (i : ℕ) → i < length rest → (get_or rest i no_answer).number ≢ n) → (i : ℕ) → i < length (x ∷ rest) → (get_or (x ∷ rest) i no_answer).number ≢ n
-    go true h f further i m = absurd (true≢false (ap is_some f))
-    go false h f further zero m = eqb-false x.number n h
-    go false h f further (suc i) m = further f i (omega arith)
+no_answer_at n (x ∷ rest) e zero l = λ q. let here = rw (eq-eqb x.number n q) at e in cc
+no_answer_at n (x ∷ rest) e (suc k) l = elim (cases_Bool (eqb x.number n)) [
+  | inl h ↦ let here = rw h at e in cc
+  | inr h ↦ no_answer_at n rest (rw h at e) k (omega arith)
+]
 
 module _ {K : Type 0} {demand : K → Demand} {a : Account} (t : Table K) (agrees : AgreesWith demand a t) where
   abbrev pub claim_of_task : Task K → Claim

@@ -1,4 +1,4 @@
-use Rattle.std.proofs.Common.{◌≡◌, not, is_some, None, Some, Ok, Err, sym, refl, ap, ◌∙◌, subst, arith, rules}
+use Rattle.std.proofs.Common.{◌≡◌, None, Some, Ok, Err, sym, refl, ap, ◌∙◌, subst, arith, rules}
 use Rattle.std.proofs.lemmas.Result.{err_from_is_err_and}
 use Rattle.analysis.specs.Candidates.{claims}
 use Rattle.analysis.specs.Judge.{Judged}
@@ -11,7 +11,6 @@ use Rattle.table.specs.Places.{At}
 use Rattle.table.proofs.Changes.{row_in}
 use Rattle.table.proofs.Holding.{refused_early, no_place, passes, refused_judged}
 use Rattle.table.proofs.Judgements.{newcomer_in_time}
-use Rattle.table.proofs.Lookups.{place_free}
 use Rattle.table.proofs.Table.hold.Goals as goal
 
 pub returns-in_err-check_row-clause-account : goal.returns-in_err-check_row-clause-account
@@ -26,8 +25,8 @@ returns-in_err-place-clause-account g c a agrees =
     let claim : Claim = record { row = c.args.row; demand = g.K.Kind.demand c.args.kind } in
     let none : c.place_in.result ≡ None = grind (arith, c.in_err-place.ensures.value) in
     let refusal : c.in_err-place.field-0.0 ≡ NoPlace = grind (arith, c.in_err-place.ensures.value) in
-    let full = place_free c.args.self.now agrees c.place_in.result c.place_in.ensures ∙ ap (λ o. not (is_some o)) none in
-    (a, rw (e.1, e.2, refusal) (no_place a claim (sym (c.in_ok-check_row.ensures a agrees)) full, refl), agrees)
+    let full = no_place c.args.self.now agrees claim (c.in_ok-check_row.ensures a agrees) c.place_in.result c.place_in.ensures none in
+    (a, rw (e.1, e.2, refusal) (full, refl), agrees)
 
 pub returns-in_err-judge-clause-account : goal.returns-in_err-judge-clause-account
 returns-in_err-judge-clause-account g c a agrees =
@@ -35,8 +34,7 @@ returns-in_err-judge-clause-account g c a agrees =
     let claim : Claim = record { row = c.args.row; demand = g.K.Kind.demand c.args.kind } in
     let task : Task g.row.K.Denot = record { row = c.args.row; kind = c.args.kind } in
     let some : c.place_in.result ≡ Some c.in_ok-place.place = grind (arith, c.in_ok-place.ensures.value) in
-    let free = place_free c.args.self.now agrees c.place_in.result c.place_in.ensures ∙ ap (λ o. not (is_some o)) some in
-    let pass = passes a claim (sym (c.in_ok-check_row.ensures a agrees)) free in
+    let pass = passes c.args.self.now agrees claim (c.in_ok-check_row.ensures a agrees) c.place_in.result c.place_in.ensures c.in_ok-place.place some in
     let judged = subst (λ os. Judged (claims g.K.Kind.demand os (Some task)) (Err c.in_err-judge.field-0.0)) c.used.ensures c.in_err-judge.ensures.judged in
     (a, rw (e.1, e.2) (refused_judged c.args.self.now agrees task pass c.in_err-judge.field-0.0 judged, refl), agrees)
 
@@ -45,8 +43,7 @@ returns-clause-account g c a agrees =
     let claim : Claim = record { row = c.args.row; demand = g.K.Kind.demand c.args.kind } in
     let task : Task g.row.K.Denot = record { row = c.args.row; kind = c.args.kind } in
     let some : c.place_in.result ≡ Some c.in_ok-place.place = grind (arith, c.in_ok-place.ensures.value) in
-    let free = place_free c.args.self.now agrees c.place_in.result c.place_in.ensures ∙ ap (λ o. not (is_some o)) some in
-    let pass = passes a claim (sym (c.in_ok-check_row.ensures a agrees)) free in
+    let pass = passes c.args.self.now agrees claim (c.in_ok-check_row.ensures a agrees) c.place_in.result c.place_in.ensures c.in_ok-place.place some in
     let judged = subst (λ os. Judged (claims g.K.Kind.demand os (Some task)) (Ok c.in_ok-judge.field-0)) c.used.ensures c.in_ok-judge.ensures.judged in
     let in_time = newcomer_in_time c.args.self.now agrees task pass c.in_ok-judge.field-0 judged in
     let at : At c.args.self.now (λ s. s ≡ Free) c.in_ok-place.place = search rules in (
