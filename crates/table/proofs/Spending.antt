@@ -1,5 +1,5 @@
 -- Holds that are spent and holds that are not, by where they stand in the table. Assumes nothing.
-use Rattle.std.proofs.Common.{◌≡◌, ℕ, ◌<◌, Bool, true, false, ◌&&◌, ◌||◌, eqb, List, [], ◌∷◌, get_or, take, Some, None, Option, sym, refl, ap, ap₂, ◌∙◌, subst, inl, inr, arith}
+use Rattle.std.proofs.Common.{◌≡◌, ℕ, ◌<◌, Bool, true, false, ◌&&◌, ◌||◌, eqb, List, [], ◌∷◌, get_or, take, Some, None, Option, Err, Result, sym, refl, ap, ap₂, ◌∙◌, subst, inl, inr, arith}
 use Rattle.std.proofs.lemmas.List.{length-take}
 use Rattle.std.proofs.lemmas.List.Recursion.{or_from_places}
 use Rattle.std.proofs.lemmas.Bool.{both_ways, eqb-true, eq-eqb, or_cases, or_from, cond_both, false_from_ne_true}
@@ -8,10 +8,12 @@ use Rattle.analysis.specs.declared.Task.{Task}
 use Rattle.analysis.specs.Candidates.{claims_of}
 use Rattle.analysis.specs.Ranks.{Claim}
 use Rattle.table.specs.declared.Hold.{Hold}
+use Rattle.table.specs.declared.SpendRefusal.{SpendRefusal}
+use Rattle.table.specs.declared.SpendRefusal.TheVariants.{NotHeld}
 use Rattle.table.specs.declared.State.{State}
 use Rattle.table.specs.declared.State.TheVariants.{Free, Held, Kept}
 use Rattle.table.specs.declared.Table.{Table}
-use Rattle.table.specs.Account.{Account, Bears, has_number, bears, unspent, held, spent}
+use Rattle.table.specs.Account.{Account, Bears, has_number, bears, unspent, held, spent, Spends}
 use Rattle.table.specs.Agreement.{AgreesWith, StandsAt, StateOf, OwnHolds}
 use Rattle.table.specs.Places.{names, At, HeldHere}
 use Rattle.table.proofs.Lookups.{named, named_more, number_found}
@@ -98,7 +100,7 @@ module _ {K : Type 0} {demand : K → Demand} {a : Account} (t : Table K) (agree
   pub is_unspent : (h : Hold) (p : ℕ) → HeldHere t h p → unspent h.table h.row a.holds ≡ true
   is_unspent h p here = rw (here.0, ← agrees.number_is) (held_at h.row p here.1).unspent_is
 
-  pub is_spent : (h : Hold) → ((p : ℕ) → HeldHere t h p → ⊥) → unspent h.table h.row a.holds ≡ false
+  is_spent : (h : Hold) → ((p : ℕ) → HeldHere t h p → ⊥) → unspent h.table h.row a.holds ≡ false
   is_spent h away = false_from_ne_true (unspent h.table h.row a.holds) (λ e. both_ways (has_number h.row (claims_of demand (take 12 t.places.now))) (gone e) (there e))
     where
       own : unspent h.table h.row a.holds ≡ true → h.table ≡ a.number
@@ -120,3 +122,7 @@ module _ {K : Type 0} {demand : K → Demand} {a : Account} (t : Table K) (agree
           let low : i < 12 = omega arith in
           false_from_ne_true (named h.row (get_or (take 12 t.places.now) i None))
           (λ q. away i (own e ∙ agrees.number_is, ((low, omega arith), is_held_there a h.row (get_or t.states i Free) (get_or (take 12 t.places.now) i None) (agrees.at_each i low) q (ours e)))))
+
+  -- a hold whose row is not held here comes back, and the account is as it was
+  pub comes_back : (h : Hold) (after : Account) (r : Result (Unit {0}) SpendRefusal) → r ≡ Err (NotHeld h) → ((p : ℕ) → HeldHere t h p → ⊥) → (b : Account) × Spends a h after r b × AgreesWith demand b t
+  comes_back h after r is away = (a, rw is (is_spent h away, refl, refl), agrees)

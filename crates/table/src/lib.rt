@@ -24,6 +24,10 @@ pub enum State {
 }
 
 // A table over row memory that the caller lends. It uses the first twelve places at most.
+// The states stand beside the memory and not in it, since the caller lends places of `Option<Task<K>>`.
+// The table carries no account, and what the calls promise is of every account that agrees with it: a caller may know the
+// same table by an account with its rows in another order, so a promise about one account that is carried would be less.
+// Nor can a ghost field carry one: its rows have the meanings of kinds, which are functions, and those have no code.
 #[derive(Drop)]
 pub struct Table<'a, K> {
     number: u8,

@@ -26,6 +26,8 @@ impl Hold {
     }
 }
 
+// The numbers of refusals are those that the formats lay down. A cast gives none where a refusal has a value in it, as two
+// of these have, so all four say theirs by a match.
 impl HoldRefusal {
     pub fn number(self) -> u32
         ensures { result ≡ hold_number self }
