@@ -72,6 +72,7 @@ pub enum BoundRefusal {
 }
 
 // The figures worked out by hand follow from the definitions.
+#[tactic(auto, using(crate::proofs::Worked::worked_figures))]
 pub fn worked_figures_hold() -> bool
     ensures { (result ≡ true) × (WorkedFigures) }
 {
