@@ -1,5 +1,5 @@
 // Looking for a place, a row, an answer.
-ghost use Rattle.std.specs.Prelude.{◌≡◌, true, take};
+ghost use Rattle.std.specs.Prelude.{◌≡◌, true, length, take};
 ghost use Rattle.table.specs.Account.{Account, any_above, has_number, has_priority};
 ghost use Rattle.table.specs.Agreement.{AgreesWith};
 ghost use Rattle.table.specs.Places.{names, answer_of, PlaceWhere};
@@ -42,13 +42,19 @@ impl<'a, K: Kind + Drop> Table<'a, K> {
         &self.places[..self.places.len().min(MOST_ROWS)]
     }
 
+    // The states of these places.
+    fn used_states(&self) -> &[State]
+        ensures { result.now ≡ take (length self.now.places.now) self.now.states }
+    {
+        &self.states[..self.used().len()]
+    }
+
     // The place of the row with this number.
     pub(crate) fn place_of(&self, number: u32) -> Option<usize>
         ensures { PlaceWhere self.now (λ s. names s number ≡ true) result }
     {
-        self.states
+        self.used_states()
             .iter()
-            .take(self.places.len())
             .position(|state| state.names(number))
     }
 
@@ -56,10 +62,7 @@ impl<'a, K: Kind + Drop> Table<'a, K> {
     pub(crate) fn place_in(&self, state: State) -> Option<usize>
         ensures { PlaceWhere self.now (λ s. s ≡ state) result }
     {
-        self.states
-            .iter()
-            .take(self.places.len())
-            .position(|at| *at == state)
+        self.used_states().iter().position(|at| *at == state)
     }
 
     pub(crate) fn has_number(&self, number: u32) -> bool
