@@ -9,7 +9,8 @@ use Rattle.planfile.specs.declared.entry.Entry.{Entry}
 use Rattle.planfile.specs.declared.entry.Jobs.{Jobs}
 use Rattle.planfile.specs.declared.entry.Jobs.TheVariants.{Every, Heavy}
 use Rattle.planfile.specs.Text.{newline, tab, is_digit, all_digits, value_after, value, is_number}
-use Rattle.planfile.specs.Laws.{number_fields, jobs_text, numbers_of, row_text, rows_text, clock_text, plan_text, AllFit, jobs_numbers, Writable}
+use Rattle.planfile.specs.Report.{number_fields}
+use Rattle.planfile.specs.Laws.{jobs_text, numbers_of, row_text, rows_text, clock_text, plan_text, AllFit, jobs_numbers, Writable}
 use Rattle.planfile.proofs.Joined.{Lacks, Part, Parts, parts_append, tabbed, tabbed_append, with_newlines}
 
 -- the digits of a file are decimal digits, and their value is what they write

@@ -14,7 +14,7 @@ use Rattle.planfile.specs.Fault.{Blame, nothing, at_line, first_blame, blame}
 use Rattle.planfile.specs.Text.{tab, newline, lines, fields}
 use Rattle.planfile.specs.Checks.{clock_checks, clock_of, kind_checks, claim_of}
 use Rattle.planfile.specs.Reading.{taking, claim_in, clock_fields, file_checks, RowTaken, RowRefused, FileRead}
-use Rattle.planfile.specs.Report.{number_field, report, WrittenAt}
+use Rattle.planfile.specs.Report.{number_fields, report, WrittenAt}
 
 -- the row lines of a file: all lines but the first
 abbrev pub row_lines : List ℕ → List (List ℕ)
@@ -75,11 +75,6 @@ InFileOrder text before r after =
 abbrev pub OneAnswer : List ℕ → ℕ → Result ℕ Fault → Type 0
 OneAnswer text room r =
     (s : Result (List Claim) Blame) → FileRead text room s → MatchResult r (λ _. s ≡ Ok (rows_onto (factor_of text) [] (row_lines text))) (λ f. s ≡ Err (blame f))
-
--- numbers, each behind a tab
-abbrev pub number_fields : List ℕ → List ℕ
-number_fields [] = []
-number_fields (n ∷ ns) = number_field n ++ number_fields ns
 
 -- a kind's word, and its numbers
 abbrev pub jobs_text : Jobs → List ℕ

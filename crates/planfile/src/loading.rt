@@ -71,10 +71,8 @@ pub fn load(file: &[u8], report: &mut [u8]) -> Result<usize, Fault>
     let mut places = [None; 12];
     let mut table = Table::new(0, &mut places);
     take_lines(file, &mut table)?;
-    match table.answers() {
-        Ok(answers) => Ok(write_report(answers.rows(), report)),
-        Err(_) => unreachable(),
-    }
+    let answers = table.answers().unwrap();
+    Ok(write_report(answers.rows(), report))
 }
 
 // Writes the text that answers a plan file, which is its report or the line of its refusal, and answers the length of the text.
@@ -82,6 +80,7 @@ pub fn answer(file: &[u8], out: &mut [u8]) -> Result<usize, Fault>
     ensures text { AnsweredText file.now out.old result out.new }
     ensures within { IfOk result (λ n. n ≤ length out.old) }
 {
+    // A `match`, since `or_else` does not say that `out` stays as it is where its closure is not called.
     match load(file, out) {
         Ok(length) => Ok(length),
         Err(fault) => write_refusal(fault, out),
