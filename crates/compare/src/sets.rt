@@ -7,7 +7,7 @@ use super::scan::{
 };
 use analysis::{JudgeRefusal, Row, Task, judge};
 use anyhow::anyhow;
-use demand::{Delayed, Either, Every, Heavy, Slowed};
+use demand::{Delayed, Either, Every, Factor, Heavy, Left, Right, Slowed};
 use std::alloc::{AllocError, Global};
 
 // The jobs inside all layers, then one layer around them, then two.
@@ -33,13 +33,13 @@ pub(crate) struct SetSeen {
 
 fn basic_of(jobs: Jobs) -> Basic {
     match jobs {
-        Jobs::Every { job, period } => Either::One(Every { job, period }),
+        Jobs::Every { job, period } => Left(Every { job, period }),
         Jobs::Heavy {
             job,
             heavy,
             among,
             period,
-        } => Either::Other(Heavy {
+        } => Right(Heavy {
             job,
             heavy,
             among,
@@ -51,12 +51,14 @@ fn basic_of(jobs: Jobs) -> Basic {
 // A kind under a layer.
 fn under<K>(layer: Layer, kind: K) -> Either<K, Either<Delayed<K>, Slowed<K>>> {
     match layer {
-        Layer::Bare => Either::One(kind),
-        Layer::Late(delay) => Either::Other(Either::One(Delayed { kind, delay })),
-        Layer::Slow(numerator, denominator) => Either::Other(Either::Other(Slowed {
+        Layer::Bare => Left(kind),
+        Layer::Late(delay) => Right(Left(Delayed { kind, delay })),
+        Layer::Slow(numerator, denominator) => Right(Right(Slowed {
             kind,
-            numerator,
-            denominator,
+            factor: Factor {
+                numerator,
+                denominator,
+            },
         })),
     }
 }

@@ -5,8 +5,8 @@ use Rattle.std.proofs.lemmas.Nat.{mul-le, le-div}
 use Rattle.demand.specs.Demand.{Demand, Lawful, window, divided_up}
 use Rattle.demand.specs.Basic.{every, heavy, one_heavy, length_of_job, length_of_heavy, length_of_pattern, length_of_spacing}
 use Rattle.demand.specs.Made.{either_demand, delayed, delay_of, longer, slowed, times_up, numerator_of, denominator_of}
-use Rattle.demand.specs.declared.choice.Either.{Either}
-use Rattle.demand.specs.declared.choice.Either.TheVariants.{One, Other}
+use Rattle.either.specs.declared.Either.{Either}
+use Rattle.either.specs.declared.Either.TheVariants.{Left, Right}
 use Rattle.demand.specs.Rounding.{up_is, up_never_falls, up_positive}
 use Rattle.demand.specs.Runs.{largest_is}
 
@@ -91,5 +91,5 @@ delayed_lawful j d law = record {
 
 -- one kind or the other keeps the laws that both keep
 pub either_lawful : {A B : Type 0} (one : A → Demand) (other : B → Demand) → ((a : A) → Lawful (one a)) → ((b : B) → Lawful (other b)) → (k : Either A B) → Lawful (either_demand one other k)
-either_lawful one other law_of_one law_of_other (One a) = law_of_one a
-either_lawful one other law_of_one law_of_other (Other b) = law_of_other b
+either_lawful one other law_of_one law_of_other (Left a) = law_of_one a
+either_lawful one other law_of_one law_of_other (Right b) = law_of_other b

@@ -2,14 +2,14 @@
 use Rattle.std.specs.Prelude.{ℕ, ◌+◌, ◌-◌, ◌*◌, ◌/◌, min, max}
 use Rattle.demand.specs.Demand.{Demand, capped, window, within, divided_up}
 use Rattle.demand.specs.declared.jitter.Delayed.{Delayed}
-use Rattle.demand.specs.declared.choice.Either.{Either}
-use Rattle.demand.specs.declared.choice.Either.TheVariants.{One, Other}
+use Rattle.either.specs.declared.Either.{Either}
+use Rattle.either.specs.declared.Either.TheVariants.{Left, Right}
 use Rattle.demand.specs.declared.speed.Slowed.{Slowed}
 
 -- the one kind or the other means what the kind that it holds means
 abbrev pub either_demand : {A B : Type 0} → (A → Demand) → (B → Demand) → Either A B → Demand
-either_demand one other (One a) = one a
-either_demand one other (Other b) = other b
+either_demand one other (Left a) = one a
+either_demand one other (Right b) = other b
 
 -- a delay counts as at most the spacing less 1
 abbrev pub delay_of : ℕ → Demand → ℕ
@@ -59,4 +59,4 @@ slowed a b = longer (numerator_of a b) (denominator_of b)
 
 -- what a value of the code means, over what its kind means
 abbrev pub slowed_demand : {K : Type 0} → (K → Demand) → Slowed K → Demand
-slowed_demand below k = slowed k.numerator k.denominator (below k.kind)
+slowed_demand below k = slowed k.factor.numerator k.factor.denominator (below k.kind)

@@ -14,11 +14,11 @@ pub mod speed;
 #[cfg(test)]
 mod tests;
 
-pub use choice::Either;
+pub use either::{Either, Left, Right};
 pub use jitter::Delayed;
 pub use pattern::Heavy;
 pub use periodic::Every;
-pub use speed::{Slowed, check_factor};
+pub use speed::{Factor, Slowed};
 
 // The longest job and the most work that is ever answered.
 pub const CAP: u32 = 2_000_000;
@@ -49,25 +49,20 @@ pub trait Kind {
     ghost lawful: { (k : Self) → Lawful (demand k) };
 }
 
-// What is wrong with the numbers of a kind.
+// What is wrong with the numbers of a kind, by the number of the check that applies.
 #[derive(Clone, Copy, PartialEq, Eq, Debug)]
 pub enum KindRefusal {
-    Job,
-    Period,
-    Delay,
-    Speed,
+    Job = 1,
+    Period = 2,
+    Delay = 3,
+    Speed = 4,
 }
 
 impl KindRefusal {
     pub fn number(self) -> u32
         ensures { result ≡ refusal_number self }
     {
-        match self {
-            KindRefusal::Job => 1,
-            KindRefusal::Period => 2,
-            KindRefusal::Delay => 3,
-            KindRefusal::Speed => 4,
-        }
+        self as u32
     }
 }
 
@@ -75,7 +70,7 @@ impl KindRefusal {
 fn is_length(n: u32) -> bool
     ensures { result ≡ not (no_length n) }
 {
-    1 <= n && n <= LONGEST
+    (1..=LONGEST).contains(&n)
 }
 
 // n, or the cap where n is above it.

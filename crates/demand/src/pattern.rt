@@ -1,6 +1,6 @@
 // The kind with one heavy job among so many.
 ghost use Rattle.std.specs.Prelude.{◌≡◌, ◌^◌, ◌<◌, ◌≤◌, IfOk};
-ghost use Rattle.demand.specs.Basic.{from_heavy, heavy_demand, largest_total};
+ghost use Rattle.demand.specs.Basic.{from_heavy, heavy_demand, largest_total, length_of_heavy, length_of_job, length_of_pattern};
 ghost use Rattle.demand.specs.Refusals.{answer_number, first, heavy_checks};
 ghost use Rattle.demand.specs.Laws.{heavy_lawful};
 
@@ -24,7 +24,7 @@ impl Heavy {
         if !is_length(job) || !is_length(heavy) || heavy < job {
             return Err(KindRefusal::Job);
         }
-        if !is_length(period) || among < 2 || 64 < among {
+        if !is_length(period) || !(2..=64).contains(&among) {
             return Err(KindRefusal::Period);
         }
         Ok(Heavy {
@@ -36,20 +36,25 @@ impl Heavy {
     }
 }
 
-// The total of consecutive jobs that begin with a heavy one.
-fn from_heavy(job: u64, heavy: u64, among: u64, jobs: u64) -> u64
-    requires { (job ≤ heavy) × ((heavy ≤ 1000000) × ((0 < among) × (jobs < 2 ^ 32))) }
-    ensures { result ≡ from_heavy job heavy among jobs }
-{
-    jobs * job + rounded_up(jobs, among) * (heavy - job)
-}
+impl Heavy {
+    // The total of consecutive jobs that begin with a heavy one.
+    fn from_heavy(&self, jobs: u64) -> u64
+        requires { jobs < 2 ^ 32 }
+        ensures { result ≡ from_heavy (length_of_job self.now.job) (length_of_heavy self.now.job self.now.heavy) (length_of_pattern self.now.among) jobs }
+    {
+        let job = u64::from(self.least());
+        let heavy = u64::from(self.own());
+        let among = u64::from(self.among.clamp(2, 64));
+        jobs * job + rounded_up(jobs, among) * (heavy - job)
+    }
 
-// The largest total of consecutive jobs: none take more than those that begin with a heavy one.
-fn largest_total(job: u64, heavy: u64, among: u64, jobs: u64) -> u64
-    requires { (job ≤ heavy) × ((heavy ≤ 1000000) × ((0 < among) × (jobs < 2 ^ 32))) }
-    ensures { result ≡ largest_total job heavy among jobs }
-{
-    from_heavy(job, heavy, among, jobs)
+    // The largest total of consecutive jobs: none take more than those that begin with a heavy one.
+    fn largest_total(&self, jobs: u64) -> u64
+        requires { jobs < 2 ^ 32 }
+        ensures { result ≡ largest_total (length_of_job self.now.job) (length_of_heavy self.now.job self.now.heavy) (length_of_pattern self.now.among) jobs }
+    {
+        self.from_heavy(jobs)
+    }
 }
 
 impl Kind for Heavy {
@@ -71,7 +76,6 @@ impl Kind for Heavy {
 
     fn work(&self, window: u32) -> u32 {
         let jobs = rounded_up(u64::from(window), u64::from(self.spacing()));
-        let among = u64::from(self.among.clamp(2, 64));
-        up_to_cap(largest_total(u64::from(self.least()), u64::from(self.own()), among, jobs))
+        up_to_cap(self.largest_total(jobs))
     }
 }

@@ -1,5 +1,5 @@
 // The kind whose jobs take longer, by a factor.
-ghost use Rattle.std.specs.Prelude.{◌≡◌, ◌<◌, ◌≤◌, IfOk};
+ghost use Rattle.std.specs.Prelude.{◌≡◌, IfOk};
 ghost use Rattle.demand.specs.Made.{denominator_of, numerator_of, slowed_demand, times_down, times_up};
 ghost use Rattle.demand.specs.Refusals.{answer_number, first, slowed_checks};
 ghost use Rattle.demand.specs.Laws.{slowed_lawful};
@@ -9,87 +9,94 @@ use super::{Kind, KindRefusal, rounded_up, up_to_cap};
 // The largest part of a factor.
 const LARGEST: u32 = 1_000;
 
-// The jobs of `kind`, each `numerator / denominator` times as long.
+// How many times as long jobs take: `numerator / denominator`.
 // A number out of range counts as the nearest in it, and the numerator as at least the denominator.
-#[derive(Clone, Copy, Drop)]
-pub struct Slowed<K> {
-    pub kind: K,
+#[derive(Clone, Copy)]
+pub struct Factor {
     pub numerator: u32,
     pub denominator: u32,
 }
 
-// Checks the parts of a factor.
-pub fn check_factor(numerator: u32, denominator: u32) -> Result<(), KindRefusal>
-    ensures { answer_number result ≡ first (slowed_checks numerator denominator) }
-{
-    if denominator < 1 || numerator < denominator || LARGEST < numerator {
-        return Err(KindRefusal::Speed);
+impl Factor {
+    pub fn new(numerator: u32, denominator: u32) -> Result<Factor, KindRefusal>
+        ensures refusal { answer_number result ≡ first (slowed_checks numerator denominator) }
+        ensures fields { IfOk result (λ f. (f.numerator ≡ numerator) × (f.denominator ≡ denominator)) }
+    {
+        if denominator < 1 || numerator < denominator || LARGEST < numerator {
+            return Err(KindRefusal::Speed);
+        }
+        Ok(Factor {
+            numerator,
+            denominator,
+        })
     }
-    Ok(())
+
+    // The parts that count.
+    fn counted(self) -> Factor
+        ensures { (result.numerator ≡ numerator_of self.numerator self.denominator) × (result.denominator ≡ denominator_of self.denominator) }
+    {
+        let denominator = self.denominator.clamp(1, LARGEST);
+        let numerator = self.numerator.clamp(1, LARGEST).max(denominator);
+        Factor {
+            numerator,
+            denominator,
+        }
+    }
+
+    // n times the factor, rounded up.
+    fn times_up(self, n: u32) -> u32
+        ensures { result ≡ times_up (numerator_of self.numerator self.denominator) (denominator_of self.denominator) n }
+    {
+        let counted = self.counted();
+        let product = u64::from(n) * u64::from(counted.numerator);
+        up_to_cap(rounded_up(product, u64::from(counted.denominator)))
+    }
+
+    // n times the factor, rounded down.
+    fn times_down(self, n: u32) -> u32
+        ensures { result ≡ times_down (numerator_of self.numerator self.denominator) (denominator_of self.denominator) n }
+    {
+        let counted = self.counted();
+        let product = u64::from(n) * u64::from(counted.numerator);
+        up_to_cap(product / u64::from(counted.denominator))
+    }
+}
+
+// The jobs of `kind`, each longer by the factor.
+#[derive(Clone, Copy, Drop)]
+pub struct Slowed<K> {
+    pub kind: K,
+    pub factor: Factor,
 }
 
 impl<K: Kind + Drop> Slowed<K> {
     pub fn new(kind: K, numerator: u32, denominator: u32) -> Result<Slowed<K>, KindRefusal>
         ensures refusal { answer_number result ≡ first (slowed_checks numerator denominator) }
-        ensures fields { IfOk result (λ k. (k.kind ≡ kind) × (k.numerator ≡ numerator) × (k.denominator ≡ denominator)) }
+        ensures fields { IfOk result (λ k. (k.kind ≡ kind) × (k.factor.numerator ≡ numerator) × (k.factor.denominator ≡ denominator)) }
     {
-        check_factor(numerator, denominator)?;
-        Ok(Slowed {
-            kind,
-            numerator,
-            denominator,
-        })
+        let factor = Factor::new(numerator, denominator)?;
+        Ok(Slowed { kind, factor })
     }
-}
-
-impl<K> Slowed<K> {
-    // The factor that counts, its numerator first.
-    fn factor(&self) -> (u64, u64)
-        ensures { (result.0 ≡ numerator_of self.now.numerator self.now.denominator) × (result.1 ≡ denominator_of self.now.denominator) }
-    {
-        let denominator = self.denominator.clamp(1, LARGEST);
-        let numerator = self.numerator.clamp(1, LARGEST).max(denominator);
-        (u64::from(numerator), u64::from(denominator))
-    }
-}
-
-// n times the factor, rounded up.
-fn times_up(n: u32, numerator: u64, denominator: u64) -> u32
-    requires { (numerator ≤ 1000) × (0 < denominator) }
-    ensures { result ≡ times_up numerator denominator n }
-{
-    up_to_cap(rounded_up(u64::from(n) * numerator, denominator))
-}
-
-// n times the factor, rounded down.
-fn times_down(n: u32, numerator: u64, denominator: u64) -> u32
-    requires { (numerator ≤ 1000) × (0 < denominator) }
-    ensures { result ≡ times_down numerator denominator n }
-{
-    up_to_cap(u64::from(n) * numerator / denominator)
 }
 
 impl<K: Kind> Kind for Slowed<K> {
     ghost demand = { slowed_demand K.Kind.demand };
 
-    ghost lawful = { λ k. slowed_lawful k.numerator k.denominator (K.Kind.demand k.kind) (K.Kind.lawful k.kind) };
+    ghost lawful = { λ k. slowed_lawful k.factor.numerator k.factor.denominator (K.Kind.demand k.kind) (K.Kind.lawful k.kind) };
 
     fn spacing(&self) -> u32 {
         self.kind.spacing()
     }
 
     fn own(&self) -> u32 {
-        let (numerator, denominator) = self.factor();
-        times_up(self.kind.own(), numerator, denominator)
+        self.factor.times_up(self.kind.own())
     }
 
     fn least(&self) -> u32 {
-        let (numerator, denominator) = self.factor();
-        times_down(self.kind.least(), numerator, denominator)
+        self.factor.times_down(self.kind.least())
     }
 
     fn work(&self, window: u32) -> u32 {
-        let (numerator, denominator) = self.factor();
-        times_up(self.kind.work(window), numerator, denominator)
+        self.factor.times_up(self.kind.work(window))
     }
 }

@@ -2,12 +2,9 @@ use super::*;
 
 const EVERY: Every = Every { job: 2, period: 10 };
 
-// The number of what a constructor answers.
-fn answer<K: Drop>(made: Result<K, KindRefusal>) -> u32 {
-    match made {
-        Ok(_) => 0,
-        Err(refusal) => refusal.number(),
-    }
+// The number by which a constructor refuses.
+fn refusal<K: Drop>(made: Result<K, KindRefusal>) -> Option<u32> {
+    made.err().map(|refusal| refusal.number())
 }
 
 #[test]
@@ -24,8 +21,10 @@ fn figures(rt: HostRuntime) {
     };
     let slowed = Slowed {
         kind: Every { job: 3, period: 10 },
-        numerator: 3,
-        denominator: 2,
+        factor: Factor {
+            numerator: 3,
+            denominator: 2,
+        },
     };
     assert_eq!(rt; [EVERY.work(10), EVERY.work(11)], [2, 4]);
     assert_eq!(rt; [heavy.work(1), heavy.work(21), heavy.work(31)], [5, 9, 14]);
@@ -52,10 +51,12 @@ fn nearest(rt: HostRuntime) {
         kind: EVERY,
         delay: 99,
     };
-    let fast: Either<Every, Slowed<Every>> = Either::Other(Slowed {
+    let fast: Either<Every, Slowed<Every>> = Right(Slowed {
         kind: EVERY,
-        numerator: 1,
-        denominator: 9,
+        factor: Factor {
+            numerator: 1,
+            denominator: 9,
+        },
     });
     assert_eq!(rt;
         [longest.own(), longest.spacing(), longest.work(9)],
@@ -69,31 +70,31 @@ fn nearest(rt: HostRuntime) {
 fn refusals(rt: HostRuntime) {
     assert_eq!(rt;
         [
-            answer(Every::new(0, 0)),
-            answer(Every::new(1, 1_000_001)),
-            answer(Every::new(1_000_000, 1)),
+            refusal(Every::new(0, 0)),
+            refusal(Every::new(1, 1_000_001)),
+            refusal(Every::new(1_000_000, 1)),
         ],
-        [1, 2, 0]
+        [Some(1), Some(2), None]
     );
     assert_eq!(rt;
         [
-            answer(Heavy::new(3, 2, 1, 10)),
-            answer(Heavy::new(2, 3, 65, 10)),
+            refusal(Heavy::new(3, 2, 1, 10)),
+            refusal(Heavy::new(2, 3, 65, 10)),
         ],
-        [1, 2]
+        [Some(1), Some(2)]
     );
     assert_eq!(rt;
         [
-            answer(Delayed::new(EVERY, 10)),
-            answer(Delayed::new(EVERY, 9)),
+            refusal(Delayed::new(EVERY, 10)),
+            refusal(Delayed::new(EVERY, 9)),
         ],
-        [3, 0]
+        [Some(3), None]
     );
     assert_eq!(rt;
         [
-            answer(Slowed::new(EVERY, 1, 2)),
-            answer(Slowed::new(EVERY, 1_000, 1)),
+            refusal(Slowed::new(EVERY, 1, 2)),
+            refusal(Slowed::new(EVERY, 1_000, 1)),
         ],
-        [4, 0]
+        [Some(4), None]
     );
 }

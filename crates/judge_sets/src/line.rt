@@ -1,7 +1,7 @@
 // The lines of the input: a row, or the end of a set. Fields stand one blank apart.
 use analysis::{LOCKS, Row, Task};
 use anyhow::{Context, anyhow};
-use demand::{Either, Every, Heavy};
+use demand::{Either, Every, Heavy, Left, Right};
 use std::str::Split;
 
 // The kinds of demand that a row can have.
@@ -31,8 +31,8 @@ impl Line {
 fn task(fields: &mut Split<'_, char>) -> anyhow::Result<Task<Demand>> {
     let row = row(fields)?;
     let kind = match fields.next() {
-        Some("every") => Either::One(every(fields)?),
-        Some("heavy") => Either::Other(heavy(fields)?),
+        Some("every") => Left(every(fields)?),
+        Some("heavy") => Right(heavy(fields)?),
         _ => return Err(anyhow!("a row is neither 'every' nor 'heavy'")),
     };
     Ok(Task { row, kind })

@@ -1,7 +1,7 @@
 -- What the lines of a file give, one after the other. Assumes nothing.
 use Rattle.std.proofs.Common.{◌≡◌, ℕ, ◌+◌, ◌<◌, ◌≤◌, true, ◌≢◌, ◌⊎◌, List, [], ◌∷◌, length, get_or, drop, Ok, Err, Result, sym, refl, ap, ◌∙◌, subst, inl, inr, arith, drop_of_length-le, eqb-true, MatchResult}
 use Rattle.analysis.specs.Ranks.{Claim}
-use Rattle.planfile.specs.declared.entry.Clock.{Clock as Factor}
+use Rattle.demand.specs.declared.speed.Factor.{Factor}
 use Rattle.planfile.specs.declared.fault.Fault.{Fault}
 use Rattle.planfile.specs.declared.fault.Fault.TheVariants.{Line}
 use Rattle.planfile.specs.declared.fault.LineFault.{LineFault}

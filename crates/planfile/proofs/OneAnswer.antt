@@ -11,7 +11,7 @@ use Rattle.table.specs.Account.{Refused, hold_number, hold_late}
 use Rattle.table.specs.Agreement.{LawfulRows}
 use Rattle.table.proofs.Shared.{at_least_five, needs_grow}
 use Rattle.table.proofs.Unique.{same_bounds}
-use Rattle.planfile.specs.declared.entry.Clock.{Clock as Factor}
+use Rattle.demand.specs.declared.speed.Factor.{Factor}
 use Rattle.planfile.specs.declared.fault.Fault.{Fault}
 use Rattle.planfile.specs.declared.fault.LineFault.TheVariants.{Hold}
 use Rattle.planfile.specs.Fault.{Blame, nothing, at_line, first_blame, line_blame, blame}

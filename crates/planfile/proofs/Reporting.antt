@@ -9,7 +9,7 @@ use Rattle.analysis.proofs.Order.{highest_first}
 use Rattle.table.specs.Account.{number_of}
 use Rattle.table.specs.Agreement.{LawfulRows}
 use Rattle.table.proofs.Shared.{passed, needs_grow, length_ranks}
-use Rattle.planfile.specs.declared.entry.Clock.{Clock as Factor}
+use Rattle.demand.specs.declared.speed.Factor.{Factor}
 use Rattle.planfile.specs.Checks.{entry_of}
 use Rattle.planfile.specs.Reading.{taking, claim_in, RowTaken, RowsRead, LinesRead}
 use Rattle.planfile.specs.Report.{report}

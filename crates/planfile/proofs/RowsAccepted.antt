@@ -13,7 +13,7 @@ use Rattle.table.specs.Account.{AllInTime, Refused, hold_checks}
 use Rattle.table.specs.Agreement.{LawfulRows}
 use Rattle.table.proofs.Promise.{is_late}
 use Rattle.table.proofs.Shared.{needs_grow, ranked_lawful, has_plan, passed}
-use Rattle.planfile.specs.declared.entry.Clock.{Clock as Factor}
+use Rattle.demand.specs.declared.speed.Factor.{Factor}
 use Rattle.planfile.specs.declared.entry.Entry.{Entry}
 use Rattle.planfile.specs.declared.entry.Jobs.{Jobs}
 use Rattle.planfile.specs.declared.entry.Jobs.TheVariants.{Every, Heavy}

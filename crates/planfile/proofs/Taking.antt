@@ -12,7 +12,7 @@ use Rattle.table.specs.declared.Table.{Table}
 use Rattle.table.specs.Account.{Account, Accepted, Refused, Holds, Spends, number_of, unspent, with_row, with_kept}
 use Rattle.table.specs.Agreement.{AgreesWith}
 use Rattle.table.proofs.Given.{clash, given, given_bears}
-use Rattle.planfile.specs.declared.entry.Clock.{Clock as Factor}
+use Rattle.demand.specs.declared.speed.Factor.{Factor}
 use Rattle.planfile.specs.declared.entry.Entry.{Entry}
 use Rattle.planfile.specs.declared.fault.LineFault.{LineFault}
 use Rattle.planfile.specs.declared.fault.LineFault.TheVariants.{Kind, Hold}

@@ -4,7 +4,7 @@ use Rattle.std.proofs.lemmas.Fmt.{digits_decimal, digits_value-decimal, decimal_
 use Rattle.std.proofs.lemmas.List.{append_assoc, length-append, length-map}
 use Rattle.std.proofs.lemmas.Str.Parse.{IsNumeralModel, numerals_by_fold}
 use Rattle.std.proofs.lemmas.Bool.{and_parts, and_from, leb-true, lt-ltb, le-leb, ne_eqb, not_from_true}
-use Rattle.planfile.specs.declared.entry.Clock.{Clock as Factor}
+use Rattle.demand.specs.declared.speed.Factor.{Factor}
 use Rattle.planfile.specs.declared.entry.Entry.{Entry}
 use Rattle.planfile.specs.declared.entry.Jobs.{Jobs}
 use Rattle.planfile.specs.declared.entry.Jobs.TheVariants.{Every, Heavy}

@@ -3,7 +3,7 @@ use Rattle.std.proofs.Common.{◌≡◌, ℕ, zero, suc, ◌+◌, ◌-◌, ◌�
 use Rattle.std.proofs.lemmas.Bool.{cond-false}
 use Rattle.demand.specs.Refusals.{first, delayed_checks, slowed_checks}
 use Rattle.table.proofs.Shared.{Numbered, not_taken}
-use Rattle.planfile.specs.declared.entry.Clock.{Clock as Factor}
+use Rattle.demand.specs.declared.speed.Factor.{Factor}
 use Rattle.planfile.specs.declared.entry.Entry.{Entry}
 use Rattle.planfile.specs.declared.entry.Jobs.{Jobs}
 use Rattle.planfile.specs.declared.entry.Jobs.TheVariants.{Every, Heavy}

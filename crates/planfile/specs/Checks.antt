@@ -5,7 +5,7 @@ use Rattle.analysis.specs.Ranks.{Claim}
 use Rattle.demand.specs.Demand.{Demand}
 use Rattle.demand.specs.Basic.{every, heavy, every_demand, heavy_demand}
 use Rattle.demand.specs.Made.{delayed, slowed, delayed_demand, slowed_demand, either_demand}
-use Rattle.demand.specs.declared.choice.Either.{Either}
+use Rattle.either.specs.declared.Either.{Either}
 use Rattle.demand.specs.declared.jitter.Delayed.{Delayed}
 use Rattle.demand.specs.declared.pattern.Heavy.{Heavy as HeavyKind}
 use Rattle.demand.specs.declared.periodic.Every.{Every as EveryKind}
@@ -13,7 +13,7 @@ use Rattle.demand.specs.declared.speed.Slowed.{Slowed}
 use Rattle.demand.specs.Refusals.{every_checks, heavy_checks, delayed_checks, slowed_checks}
 use Rattle.planfile.specs.declared.word.Word.{Word}
 use Rattle.planfile.specs.declared.word.Word.TheVariants.{Clock, Row as RowWord, Every, Heavy, Other}
-use Rattle.planfile.specs.declared.entry.Clock.{Clock as Factor}
+use Rattle.demand.specs.declared.speed.Factor.{Factor}
 use Rattle.planfile.specs.declared.entry.Entry.{Entry}
 use Rattle.planfile.specs.declared.entry.Jobs.{Jobs}
 use Rattle.planfile.specs.declared.entry.Jobs.TheVariants.{Every as EveryJobs, Heavy as HeavyJobs}

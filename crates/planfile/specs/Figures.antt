@@ -1,7 +1,7 @@
 -- A plan file of three rows, worked out by hand. Assumes nothing.
 use Rattle.std.specs.Prelude.{◌≡◌, ℕ, List, [], ◌∷◌, Ok, codes}
 use Rattle.analysis.specs.declared.Answer.{Answer}
-use Rattle.planfile.specs.declared.entry.Clock.{Clock as Factor}
+use Rattle.demand.specs.declared.speed.Factor.{Factor}
 use Rattle.planfile.specs.declared.entry.Entry.{Entry}
 use Rattle.planfile.specs.declared.entry.Jobs.TheVariants.{Every}
 use Rattle.planfile.specs.Checks.{clock_checks, line_checks}

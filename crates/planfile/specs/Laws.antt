@@ -5,7 +5,7 @@ use Rattle.analysis.specs.Judge.{InTime}
 use Rattle.analysis.specs.Ranks.{Claim}
 use Rattle.demand.specs.Refusals.{first, slowed_checks}
 use Rattle.table.specs.Account.{AllInTime, hold_checks}
-use Rattle.planfile.specs.declared.entry.Clock.{Clock as Factor}
+use Rattle.demand.specs.declared.speed.Factor.{Factor}
 use Rattle.planfile.specs.declared.entry.Entry.{Entry}
 use Rattle.planfile.specs.declared.entry.Jobs.{Jobs}
 use Rattle.planfile.specs.declared.entry.Jobs.TheVariants.{Every, Heavy}

@@ -4,7 +4,7 @@ use Rattle.analysis.specs.Ranks.{Claim}
 use Rattle.table.specs.declared.Hold.{Hold as Token}
 use Rattle.table.specs.declared.HoldRefusal.{HoldRefusal}
 use Rattle.table.specs.Account.{Account, Accepted, Refused}
-use Rattle.planfile.specs.declared.entry.Clock.{Clock as Factor}
+use Rattle.demand.specs.declared.speed.Factor.{Factor}
 use Rattle.planfile.specs.declared.fault.LineFault.TheVariants.{Hold}
 use Rattle.planfile.specs.Fault.{Blame, nothing, by, at_line, first_blame, line_blame}
 use Rattle.planfile.specs.Text.{lines, fields, ended}

@@ -5,13 +5,6 @@ use demand::{Delayed, Either, Every, Heavy, Slowed};
 // The kind of a row: its jobs, delayed, and slowed by the clock.
 pub(crate) type RowKind = Slowed<Delayed<Either<Every, Heavy>>>;
 
-// The factor by which all jobs take longer.
-#[derive(Clone, Copy)]
-pub(crate) struct Clock {
-    pub(crate) numerator: u32,
-    pub(crate) denominator: u32,
-}
-
 // The jobs of a row, by the numbers of their kind as they were read.
 #[derive(Clone, Copy)]
 pub(crate) enum Jobs {

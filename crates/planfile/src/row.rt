@@ -12,12 +12,12 @@ ghost use Rattle.planfile.specs.Reading.{taking, claim_in, RowTaken, RowRefused}
 ghost use Rattle.planfile.specs.Cut.{HasFields};
 
 use super::LineFault;
-use super::entry::{Clock, Entry, Jobs, RowKind};
+use super::entry::{Entry, Jobs, RowKind};
 use super::number::read_number;
 use super::reader::Line;
 use super::word::{Word, read_word};
 use analysis::Row;
-use demand::{Delayed, Either, Every, Heavy, KindRefusal, Slowed, check_factor};
+use demand::{Delayed, Either, Every, Factor, Heavy, KindRefusal, Left, Right, Slowed};
 use table::Table;
 
 // The number in the field of this index, from 1, or the fault that names the field.
@@ -44,7 +44,7 @@ fn read_numbers<const N: usize>(line: &Line, start: usize) -> Result<[u32; N], L
 }
 
 // The factor that a clock line gives.
-pub(crate) fn read_clock(line: &Line) -> Result<Clock, LineFault>
+pub(crate) fn read_clock(line: &Line) -> Result<Factor, LineFault>
     ensures { (fs : List (List ℕ)) → HasFields line.now fs → Reads (clock_checks fs) (clock_of fs) result }
 {
     let Word::Clock = read_word(line.field(1)) else {
@@ -54,11 +54,7 @@ pub(crate) fn read_clock(line: &Line) -> Result<Clock, LineFault>
         return Err(LineFault::Count);
     }
     let [numerator, denominator] = read_numbers::<2>(line, 2)?;
-    check_factor(numerator, denominator)?;
-    Ok(Clock {
-        numerator,
-        denominator,
-    })
+    Ok(Factor::new(numerator, denominator)?)
 }
 
 // Checks the words of a row line and how many fields it has. The answer is the word that names the kind.
@@ -146,30 +142,29 @@ fn kind_of_jobs(jobs: Jobs) -> Result<Either<Every, Heavy>, KindRefusal>
     ensures meaning { IfOk result (λ k. either_demand every_demand heavy_demand k ≡ jobs_demand jobs) }
 {
     match jobs {
-        Jobs::Every(job, period) => Ok(Either::One(Every::new(job, period)?)),
+        Jobs::Every(job, period) => Ok(Left(Every::new(job, period)?)),
         Jobs::Heavy(job, heavy, among, period) => {
-            Ok(Either::Other(Heavy::new(job, heavy, among, period)?))
+            Ok(Right(Heavy::new(job, heavy, among, period)?))
         }
     }
 }
 
 // The kind of a row.
-fn kind_of(entry: &Entry, clock: Clock) -> Result<RowKind, KindRefusal>
+fn kind_of(entry: &Entry, clock: Factor) -> Result<RowKind, KindRefusal>
     ensures refusal { answer_number result ≡ first (kind_checks entry.now) }
     ensures meaning { IfOk result (λ k. row_demand k ≡ (claim_of clock entry.now).demand) }
 {
     let kind = Delayed::new(kind_of_jobs(entry.jobs)?, entry.delay)?;
     Ok(Slowed {
         kind,
-        numerator: clock.numerator,
-        denominator: clock.denominator,
+        factor: clock,
     })
 }
 
 // Holds the row of a row line, and keeps it.
 pub(crate) fn take_row(
     line: &Line,
-    clock: Clock,
+    clock: Factor,
     table: &mut Table<RowKind>,
 ) -> Result<(), LineFault>
     requires { (rows : List Claim) × AgreesWith row_demand (taking rows) table.old }
