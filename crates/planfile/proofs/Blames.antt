@@ -11,7 +11,8 @@ use Rattle.planfile.specs.declared.fault.LineFault.{LineFault}
 use Rattle.planfile.specs.declared.fault.LineFault.TheVariants.{Word as OfWord, Count, Number, Kind, Hold}
 use Rattle.planfile.specs.declared.fault.Fault.{Fault}
 use Rattle.planfile.specs.declared.fault.Fault.TheVariants.{ReportMemory, File, Line}
-use Rattle.planfile.specs.Fault.{Blame, nothing, by, by_field, first_blame, line_blame, blame}
+use Rattle.planfile.specs.declared.fault.Blame.{Blame}
+use Rattle.planfile.specs.Fault.{nothing, by, by_field, first_blame, line_blame, blame}
 use Rattle.either.specs.declared.Either.TheVariants.{Left, Right}
 use Rattle.planfile.specs.declared.word.Word.{Word}
 use Rattle.planfile.specs.Checks.{Jobs, fields_due, number_checks, word_checks, blaming_none, numbers_in, number_in, jobs_checks}

@@ -13,7 +13,8 @@ use Rattle.std.proofs.lemmas.List.FromFn.{length-enumerate_from, get_or-enumerat
 use Rattle.analysis.specs.Ranks.{Claim}
 use Rattle.demand.specs.declared.speed.Factor.{Factor}
 use Rattle.planfile.specs.declared.fault.LineFault.{LineFault}
-use Rattle.planfile.specs.Fault.{Blame, nothing, at_line, first_blame, line_blame}
+use Rattle.planfile.specs.declared.fault.Blame.{Blame}
+use Rattle.planfile.specs.Fault.{nothing, at_line, first_blame, line_blame}
 use Rattle.planfile.specs.Checks.{clock_checks, clock_of}
 use Rattle.planfile.specs.Reading.{claim_in, clock_fields, RowTaken, RowRefused, RowsRead, LinesRead}
 use Rattle.planfile.specs.declared.reader.Reader.{Reader}

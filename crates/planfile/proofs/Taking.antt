@@ -14,7 +14,8 @@ use Rattle.table.specs.Account.{Account, Accepted, Holds, Spends, number_of, uns
 use Rattle.table.specs.Agreement.{AgreesWith}
 use Rattle.table.proofs.Given.{clash, given, given_bears}
 use Rattle.demand.specs.declared.speed.Factor.{Factor}
-use Rattle.planfile.specs.Fault.{Blame, nothing, by, first_blame}
+use Rattle.planfile.specs.declared.fault.Blame.{Blame}
+use Rattle.planfile.specs.Fault.{nothing, by, first_blame}
 use Rattle.planfile.specs.Checks.{Jobs, row_of, task_of, word_checks, number_checks, number_in, line_checks, blaming_none, jobs_checks, jobs_demand, entry_of, row_demand}
 use Rattle.planfile.specs.Reading.{taking, claim_in}
 use Rattle.std.proofs.lemmas.List.{map-append, append_assoc}

@@ -5,7 +5,8 @@ use Rattle.demand.specs.Refusals.{first, delayed_checks, slowed_checks}
 use Rattle.table.proofs.Shared.{Numbered, not_taken}
 use Rattle.demand.specs.declared.speed.Factor.{Factor}
 use Rattle.either.specs.declared.Either.TheVariants.{Left, Right}
-use Rattle.planfile.specs.Fault.{Blame, nothing, first_blame, by}
+use Rattle.planfile.specs.declared.fault.Blame.{Blame}
+use Rattle.planfile.specs.Fault.{nothing, first_blame, by}
 use Rattle.planfile.specs.Text.{fields, field, word_of, value, is_number}
 use Rattle.planfile.specs.Checks.{Jobs, Entry, number_checks, blaming_none, clock_of, clock_checks, entry_of, jobs_in, word_checks, text_checks, jobs_demand, jobs_checks, kind_checks, line_checks}
 use Rattle.planfile.specs.Laws.{numbers_of, AllFit, jobs_numbers, Writable}

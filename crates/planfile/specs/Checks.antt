@@ -17,7 +17,8 @@ use Rattle.planfile.specs.declared.word.Word.{Word}
 use Rattle.planfile.specs.declared.word.Word.TheVariants.{Clock, Row as RowWord, Every, Heavy, Other}
 use Rattle.demand.specs.declared.speed.Factor.{Factor}
 use Rattle.planfile.specs.declared.fault.LineFault.{LineFault}
-use Rattle.planfile.specs.Fault.{Blame, nothing, by, by_field, first_blame, line_blame}
+use Rattle.planfile.specs.declared.fault.Blame.{Blame}
+use Rattle.planfile.specs.Fault.{nothing, by, by_field, first_blame, line_blame}
 use Rattle.planfile.specs.Text.{field, word_of, is_number, value}
 
 abbrev pub is_clock : Word → Bool

@@ -8,7 +8,8 @@ use Rattle.table.specs.Account.{AllInTime, hold_checks}
 use Rattle.demand.specs.declared.speed.Factor.{Factor}
 use Rattle.either.specs.declared.Either.TheVariants.{Left, Right}
 use Rattle.planfile.specs.declared.fault.Fault.{Fault}
-use Rattle.planfile.specs.Fault.{Blame, nothing, at_line, first_blame, blame}
+use Rattle.planfile.specs.declared.fault.Blame.{Blame}
+use Rattle.planfile.specs.Fault.{nothing, at_line, first_blame, blame}
 use Rattle.planfile.specs.Text.{tab, newline, lines, fields}
 use Rattle.planfile.specs.Checks.{Jobs, Entry, clock_checks, clock_of, kind_checks, claim_of}
 use Rattle.planfile.specs.Reading.{taking, claim_in, clock_fields, file_checks, RowTaken, RowRefused, FileRead}

@@ -3,7 +3,7 @@ use Rattle.std.specs.Prelude.{◌≡◌, ℕ, ◌+◌, ◌<◌, ◌≤◌, List,
 use Rattle.analysis.specs.declared.Answer.{Answer}
 use Rattle.planfile.specs.declared.fault.Fault.{Fault}
 use Rattle.planfile.specs.declared.fault.Fault.TheVariants.{ReportMemory}
-use Rattle.planfile.specs.Fault.{Blame}
+use Rattle.planfile.specs.declared.fault.Blame.{Blame}
 use Rattle.planfile.specs.Text.{tab, newline}
 
 -- a tab, and the digits of a number without leading zeros

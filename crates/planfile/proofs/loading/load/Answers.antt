@@ -7,7 +7,8 @@ use Rattle.analysis.specs.declared.judgement.JudgeRefusal.{JudgeRefusal}
 use Rattle.analysis.specs.Judge.{Answered, answers_of}
 use Rattle.analysis.specs.Ranks.{Claim, ranked, loads}
 use Rattle.planfile.specs.declared.fault.Fault.{Fault}
-use Rattle.planfile.specs.Fault.{Blame, first_blame, blame}
+use Rattle.planfile.specs.declared.fault.Blame.{Blame}
+use Rattle.planfile.specs.Fault.{first_blame, blame}
 use Rattle.planfile.specs.Reading.{taking, file_checks, FileRead, LinesRead}
 use Rattle.planfile.specs.Loading.{Loaded}
 use Rattle.planfile.specs.Report.{report}

@@ -2,7 +2,7 @@
 use Rattle.std.proofs.Common.{◌+◌, List, length, drop, Result}
 use Rattle.analysis.specs.Ranks.{Claim}
 use Rattle.table.specs.Agreement.{AgreesWith}
-use Rattle.planfile.specs.Fault.{Blame}
+use Rattle.planfile.specs.declared.fault.Blame.{Blame}
 use Rattle.planfile.specs.Checks.{row_demand}
 use Rattle.planfile.specs.Reading.{taking, RowsRead, LinesRead}
 use Rattle.planfile.specs.Laws.{row_lines}
