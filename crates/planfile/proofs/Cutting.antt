@@ -10,10 +10,6 @@ use Rattle.planfile.specs.Steps.{InField, Behind, Taking}
 use Rattle.planfile.specs.Text.{newline, tab, parted_by, lines}
 use Rattle.planfile.proofs.Parted.{parted_at, parted_on, first_line}
 
--- at the start of a text
-pub begins : (text : List ℕ) → InField text 0 [] 0 0
-begins text = record { begun = omega arith; low = omega arith; one_line = refl; before = []; cut = refl; size = refl; first_twenty = refl }
-
 -- the first n of a list with more behind it need only the first n of the list
 take_front : (n : ℕ) (xs ys : List (List ℕ)) → take n (take n xs ++ ys) ≡ take n (xs ++ ys)
 take_front zero xs ys = refl

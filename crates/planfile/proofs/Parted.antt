@@ -81,13 +81,6 @@ parted_on sep b xs done last ne cut =
     let m = parted_more sep xs (b ∷ []) done last cut in
     simp e at m
 
--- a text that a separator ends has two parts or more
-pub not_one_part : (sep : ℕ) (xs p : List ℕ) → parted_by sep (xs ++ sep ∷ []) ≡ p ∷ [] → ⊥
-not_one_part sep xs p one =
-    let g = goes_on sep xs in
-    let two = parted_at sep xs [] g.done g.last g.cut in
-    omega (arith, simp length-append at (ap length (sym two ∙ one)))
-
 -- all parts but the last, with one more in front
 lines_cons : (p : List ℕ) (ps : List (List ℕ)) → 0 < length ps → take (length (p ∷ ps) - 1) (p ∷ ps) ≡ p ∷ take (length ps - 1) ps
 lines_cons p [] h = absurd (not-suc-le-zero h)

@@ -1,5 +1,5 @@
 // Loading a plan file.
-ghost use Rattle.std.specs.Prelude.{◌≡◌, ◌≤◌, true, List, [], length, IfOk, Ok, Err, MatchResult};
+ghost use Rattle.std.specs.Prelude.{◌≡◌, ◌+◌, ◌<◌, ◌≤◌, true, List, [], length, IfOk, Ok, Err, MatchResult};
 ghost use Rattle.analysis.specs.Ranks.{Claim};
 ghost use Rattle.table.specs.Agreement.{AgreesWith};
 ghost use Rattle.planfile.specs.Text.{ended};
@@ -31,6 +31,14 @@ fn check_file(file: &[u8], room: usize) -> Result<(), Fault>
     }
 }
 
+// The number of the row line of this index. Line 1 is the clock line.
+fn number_of_row(index: usize) -> u32
+    requires { index < 4096 }
+    ensures { result ≡ index + 2 }
+{
+    index as u32 + 2
+}
+
 // Takes the rows of a file into a table, in the order of the file.
 fn take_lines(file: &[u8], table: &mut Table<RowKind>) -> Result<(), Fault>
     requires short { length file.now ≤ 4096 }
@@ -42,7 +50,7 @@ fn take_lines(file: &[u8], table: &mut Table<RowKind>) -> Result<(), Fault>
     let first = reader.next().unwrap();
     let clock = read_clock(&first).map_err(|fault| Fault::Line(1, fault))?;
     for (index, line) in reader.enumerate() {
-        let number = index as u32 + 2;
+        let number = number_of_row(index);
         take_row(&line, clock, table).map_err(|fault| Fault::Line(number, fault))?;
     }
     Ok(())

@@ -28,9 +28,7 @@ within text before (Err f) after h kept = tt
 -- a file that is read had memory for its report
 read_long : (text : List ℕ) (room : ℕ) (rows : List Claim) → FileRead text room (Ok rows) → 512 ≤ room
 read_long text room rows (inl (some, e)) =
-    let no : ◌≡◌ {A = ℕ} 0 1 = cc in
-    let never : ⊥ = omega arith in
-    absurd never
+    absurd (cc)
 read_long text room rows (inr (pass, read)) = long_enough text room pass
 
 pub returns-in-Ok : goal.returns-in-Ok

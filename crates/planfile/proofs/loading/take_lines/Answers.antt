@@ -45,14 +45,9 @@ here c =
     line_at (row_lines c.args.file.now) (length c.loop-index.yielded) c.in-Some.index c.in-Some.line
     (YieldsList-turn road c.loop-index.yielded _ c.loop-index.yielded_by _ c.next-in-loop-index.new.self (c.in-Some.index, c.in-Some.line) c.in-Some.is c.next-in-loop-index.ensures.steps)
 
-pub overflow_cast-number : goal.overflow_cast-number
-overflow_cast-number c =
-    let h = here (goal.at.overflow_cast-number c).In-Some in
-    omega (arith, h.0, h.1, few_rows c.args.file.now)
-
-pub overflow_add-number : goal.overflow_add-number
-overflow_add-number c =
-    let h = here (goal.at.overflow_add-number c).In-Some in
+pub number_of_row-number-requires : goal.number_of_row-number-requires
+number_of_row-number-requires c =
+    let h = here (goal.at.number_of_row-number-requires c).In-Some in
     omega (arith, h.0, h.1, few_rows c.args.file.now)
 
 pub take_row-requires : goal.take_row-requires
@@ -80,9 +75,9 @@ returns-in_err-map_err c =
     let h = here (goal.at.returns-in_err-map_err c).In-Some in
     let inv = c.loop-index.invariant in
     let k = length c.loop-index.yielded in
-    let fault = fault_of_line c.take_row.result c.map_err-in-loop-index.result _ c.map_err-in-loop-index.ensures.cases (Line (c.in-Some.index + 2)) (λ e d t. search rules) c.in_err-map_err.field-0.0 c.in_err-map_err.was in
+    let fault = fault_of_line c.take_row.result c.map_err-in-loop-index.result _ c.map_err-in-loop-index.ensures.cases (Line c.number_of_row-number.result) (λ e d t. search rules) c.in_err-map_err.field-0.0 c.in_err-map_err.was in
     let refused = MatchResult-at_err _ _ fault.0 fault.1 (c.take_row.ensures inv.0 inv.1) in
-    let said = ap blame fault.2 ∙ ap (λ n. at_line (n + 2) (line_blame fault.0)) h.1 in
+    let said = ap blame fault.2 ∙ ap (λ n. at_line n (line_blame fault.0)) (c.number_of_row-number.ensures ∙ ap (λ n. n + 2) h.1) in
     rw (p.1, p.2)
     (subst (λ b. LinesRead c.args.file.now (Err b)) (sym said)
     (inv.2 (Err (at_line (k + 2) (line_blame fault.0)))
