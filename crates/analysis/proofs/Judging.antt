@@ -1,15 +1,15 @@
 -- Ranked rows judged from the top down. Assumes nothing.
-use Rattle.std.proofs.Common.{◌≡◌, ℕ, zero, suc, ◌+◌, ◌-◌, ◌*◌, ◌^◌, ◌<◌, ◌≤◌, max, cond, ◌≢◌, List, [], ◌∷◌, ◌++◌, map, length, get_or, take, drop, set, None, Option, sym, refl, ap, ◌∙◌, subst, ap₂, subst₂, not-suc-le-zero, add-one, arith}
+use Rattle.std.proofs.Common.{◌≡◌, ℕ, zero, suc, ◌+◌, ◌-◌, ◌*◌, ◌^◌, ◌<◌, ◌≤◌, max, cond, List, [], ◌∷◌, ◌++◌, map, length, get_or, take, drop, None, Option, sym, refl, ap, ◌∙◌, subst, ap₂, subst₂, not-suc-le-zero, add-one, arith}
 use mathlib.Core.Path.{subst₃}
 use native.Mathlib.Decide.{ℕ_discrete}
-use Rattle.std.proofs.lemmas.List.{take_more_set, length-take-le, get_or-set_same, get_or-set_other, get_or-take, map-append}
+use Rattle.std.proofs.lemmas.List.{get_or_append_left, get_or_push, length-append, map-append}
 use Rattle.demand.specs.Demand.{Demand}
 use Rattle.analysis.specs.declared.Answer.{Answer}
-use Rattle.analysis.specs.declared.Higher.{Higher}
+use Rattle.analysis.specs.declared.higher.Higher.{Higher}
 use Rattle.analysis.specs.declared.Rank.{Rank}
 use Rattle.analysis.specs.declared.Row.{Row}
 use Rattle.analysis.specs.declared.Task.{Task}
-use Rattle.analysis.specs.Candidates.{candidate, demand_of, above_of, need_with, claim_of}
+use Rattle.analysis.specs.Candidates.{above_of, need_with, claim_of}
 use Rattle.analysis.specs.Cover.{Above, interference}
 use Rattle.analysis.specs.Judge.{RankAnswered, RowAnswered, Answered, no_answer, bounds_of, vectors_of}
 use Rattle.analysis.specs.Locks.{ceiling, reaches, section, longest_of, longest, blocking}
@@ -65,8 +65,8 @@ module _ {K : Type 0} (demand : K → Demand) (places : List (Option (Task K))) 
   abbrev pub claim : Rank → Claim
   claim = claim_of demand places newcomer
 
-  abbrev pub above : Higher → Above
-  above = above_of demand places newcomer
+  abbrev pub above : Higher K → Above
+  above = above_of demand
 
   pub rows_of_claims : (rs : List Rank) → rows (map claim rs) ≡ ranked_rows rs
   rows_of_claims [] = refl
@@ -82,15 +82,17 @@ module _ {K : Type 0} (demand : K → Demand) (places : List (Option (Task K))) 
   length_loads all [] = refl
   length_loads all (r ∷ rs) = ap suc (length_loads all rs)
 
-  -- the first k rows are answered
-  pub record SoFar (ls : List Load) (k : ℕ) (answers : List Answer) (higher : List Higher) : Type 0 where
-    pub seen : map above (take k higher) ≡ take k (aboves ls (bounds_of answers))
+  -- the first k rows are answered, and seen as the rows below meet them
+  pub record SoFar (ls : List Load) (k : ℕ) (answers : List Answer) (higher : List (Higher K)) : Type 0 where
+    pub count : length answers ≡ k
+    pub above_count : length higher ≡ k
+    pub seen : map above higher ≡ take k (aboves ls (bounds_of answers))
     pub rows : (j : ℕ) → j < k → RowAnswered (at ls j) (get_or answers j no_answer)
     pub bounds : Bounds (system ls) k (bounds_of answers) (vectors_of answers)
 
-  pub none_yet : (ls : List Load) (answers : List Answer) (higher : List Higher) → SoFar ls 0 answers higher
-  none_yet ls answers higher =
-      record { seen = refl; rows = λ j h. absurd (not-suc-le-zero h); bounds = λ j h. absurd (not-suc-le-zero h) }
+  pub none_yet : (ls : List Load) → SoFar ls 0 [] []
+  none_yet ls =
+      record { count = refl; above_count = refl; seen = refl; rows = λ j h. absurd (not-suc-le-zero h); bounds = λ j h. absurd (not-suc-le-zero h) }
 
   module _ (rs : List Rank) (k : ℕ) (within : k < length rs) (blocked : ℕ) (is_blocked : blocked ≡ blocking (ranked_rows rs) (get_or rs k no_rank).row (ranked_rows (drop (k + 1) rs))) where
     abbrev all_loads : List Load
@@ -103,17 +105,17 @@ module _ {K : Type 0} (demand : K → Demand) (places : List (Option (Task K))) 
         (ap₂ (λ (all below : List Row). blocking all (get_or rs k no_rank).row below) (rows_of_claims rs) (ap (λ (n : ℕ). ranked_rows (drop n rs)) (sym (add-one k)))
         ∙ sym is_blocked)
 
-    module _ (answers : List Answer) (higher : List Higher) (few : length higher ≡ 12) (low : k < 12) (so_far : SoFar all_loads k answers higher) where
+    module _ (answers : List Answer) (higher : List (Higher K)) (so_far : SoFar all_loads k answers higher) where
       -- what holds of the need that the code sees holds of the row's
-      settled : (P : (ℕ → ℕ → ℕ) → ℕ → ℕ → Type 0) → P (need_with demand places newcomer (take k higher) ((claim (get_or rs k no_rank)).demand.own + ((get_or rs k no_rank).row.suspension + blocked))) (get_or rs k no_rank).row.deadline (2 ^ length (take k higher)) → P ((system all_loads).need k (bounds_of answers)) ((system all_loads).deadline k) ((system all_loads).vectors k)
+      settled : (P : (ℕ → ℕ → ℕ) → ℕ → ℕ → Type 0) → P (need_with demand higher ((claim (get_or rs k no_rank)).demand.own + ((get_or rs k no_rank).row.suspension + blocked))) (get_or rs k no_rank).row.deadline (2 ^ length higher) → P ((system all_loads).need k (bounds_of answers)) ((system all_loads).deadline k) ((system all_loads).vectors k)
       settled P p =
           let alone : (claim (get_or rs k no_rank)).demand.own + ((get_or rs k no_rank).row.suspension + blocked) ≡ (at all_loads k).claim.demand.own + wait (at all_loads k) = sym (ap (λ (l : Load). l.claim.demand.own + wait l) here) in
-          let needs : need_with demand places newcomer (take k higher) ((claim (get_or rs k no_rank)).demand.own + ((get_or rs k no_rank).row.suspension + blocked)) ≡ (system all_loads).need k (bounds_of answers) =
+          let needs : need_with demand higher ((claim (get_or rs k no_rank)).demand.own + ((get_or rs k no_rank).row.suspension + blocked)) ≡ (system all_loads).need k (bounds_of answers) =
           ap₂ needing alone so_far.seen
           in
-          subst₃ P needs (sym (ap (λ (l : Load). l.claim.row.deadline) here)) (ap (λ (n : ℕ). 2 ^ n) (length-take-le k higher (omega arith))) p
+          subst₃ P needs (sym (ap (λ (l : Load). l.claim.row.deadline) here)) (ap (λ (n : ℕ). 2 ^ n) so_far.above_count) p
 
-      pub first_late : NoCover (need_with demand places newcomer (take k higher) ((claim (get_or rs k no_rank)).demand.own + ((get_or rs k no_rank).row.suspension + blocked))) (get_or rs k no_rank).row.deadline (2 ^ length (take k higher)) → FirstLate (system all_loads) k
+      pub first_late : NoCover (need_with demand higher ((claim (get_or rs k no_rank)).demand.own + ((get_or rs k no_rank).row.suspension + blocked))) (get_or rs k no_rank).row.deadline (2 ^ length higher) → FirstLate (system all_loads) k
       first_late none =
           record {
             R = bounds_of answers;
@@ -126,15 +128,15 @@ module _ {K : Type 0} (demand : K → Demand) (places : List (Option (Task K))) 
       pub late_number : (get_or rs k no_rank).row.number ≡ (at all_loads k).claim.row.number
       late_number = sym (ap (λ (l : Load). l.claim.row.number) here)
 
-      module _ (long : length answers ≡ 12) (a : Answer) (h : Higher) (answered : RankAnswered demand places newcomer (take k higher) (get_or rs k no_rank) blocked a h) where
+      module _ (a : Answer) (h : Higher K) (answered : RankAnswered demand places newcomer higher (get_or rs k no_rank) blocked a h) where
         abbrev more : List Answer
-        more = set answers k a
+        more = answers ++ a ∷ []
 
         kept_answer : (i : ℕ) → i < k → get_or more i no_answer ≡ get_or answers i no_answer
-        kept_answer i l = let ne : i ≢ k = omega arith in get_or-set_other answers k i a no_answer ne
+        kept_answer i l = get_or_append_left answers (a ∷ []) no_answer i (let c = so_far.count in omega arith)
 
         new_answer : get_or more k no_answer ≡ a
-        new_answer = get_or-set_same answers k a no_answer (omega arith)
+        new_answer = get_or_push answers a no_answer k so_far.count
 
         kept_bound : (i : ℕ) → i < k → bounds_of answers i ≡ bounds_of more i
         kept_bound i l = ap (λ (x : Answer). x.bound) (sym (kept_answer i l))
@@ -165,23 +167,24 @@ module _ {K : Type 0} (demand : K → Demand) (places : List (Option (Task K))) 
 
         met_here : above h ≡ met (at all_loads k) (bounds_of more k)
         met_here =
-            same_above answered.wait answered.jitter (ap (λ (n : ℕ). (demand_of demand (candidate places newcomer n)).work) answered.place)
+            same_above answered.wait answered.jitter (ap (λ (d : Demand). d.work) answered.kind)
             ∙ ap₂ met (sym here) (ap (λ (x : Answer). x.bound) (sym new_answer))
 
-        seen_more : map above (take (k + 1) (set higher k h)) ≡ take (k + 1) (aboves all_loads (bounds_of more))
+        seen_more : map above (higher ++ h ∷ []) ≡ take (k + 1) (aboves all_loads (bounds_of more))
         seen_more =
             let count = length_loads (rows (map claim rs)) rs in
-            ap (map above) (take_more_set higher k h (omega arith))
-            ∙ map-append above (take k higher) (h ∷ [])
+            map-append above higher (h ∷ [])
             ∙ ap₂ (λ (xs : List Above) (x : Above). xs ++ x ∷ []) (so_far.seen ∙ aboves_same all_loads k (bounds_of answers) (bounds_of more) kept_bound) met_here
             ∙ sym (ap (λ (n : ℕ). take n (aboves all_loads (bounds_of more))) (add-one k) ∙ aboves_more all_loads k (bounds_of more) (omega arith))
 
         up_to : (P : ℕ → Type 0) → ((j : ℕ) → j < k → P j) → P k → (j : ℕ) → j < k + 1 → P j
         up_to P below at_k j l = elim (ℕ_discrete j k) [ yes e ↦ subst P (sym e) at_k | no ne ↦ below j (omega arith) ]
 
-        pub judged_more : SoFar all_loads (k + 1) more (set higher k h)
+        pub judged_more : SoFar all_loads (k + 1) more (higher ++ h ∷ [])
         judged_more =
             record {
+              count = let c = so_far.count in omega (arith, length-append answers (a ∷ []));
+              above_count = let c = so_far.above_count in omega (arith, length-append higher (h ∷ []));
               seen = seen_more;
               rows =
                   up_to (λ j. RowAnswered (at all_loads j) (get_or more j no_answer))
@@ -189,16 +192,6 @@ module _ {K : Type 0} (demand : K → Demand) (places : List (Option (Task K))) 
               bounds = up_to (λ j. Bound (system all_loads) (bounds_of more) j (bounds_of more j) (vectors_of more j)) bounds_kept bound_here;
             }
 
--- answers for all rows, cut to as many as there are
-pub all_answered : {K : Type 0} (demand : K → Demand) (places : List (Option (Task K))) (newcomer : Option (Task K)) (ls : List Load) (n : ℕ) (answers : List Answer) (higher : List Higher) → n ≡ length ls → n ≤ length answers → SoFar demand places newcomer ls n answers higher → Answered ls (take n answers)
-all_answered demand places newcomer ls n answers higher e l s =
-    let cut : (j : ℕ) → j < n → get_or answers j no_answer ≡ get_or (take n answers) j no_answer = λ j h. sym (get_or-take n answers j no_answer h) in
-    record {
-      count = length-take-le n answers l ∙ e;
-      rows = λ j h. subst (λ (x : Answer). RowAnswered (at ls j) x) (cut j (omega arith)) (s.rows j (omega arith));
-      bounds = λ j h.
-          subst (λ (x : Answer). Bound (system ls) (bounds_of (take n answers)) j x.bound x.vector) (cut j (omega arith))
-          (subst (λ (xs : List Above). LeastCover (needing ((at ls j).claim.demand.own + wait (at ls j)) xs) ((system ls).deadline j) ((system ls).vectors j) (bounds_of answers j) (vectors_of answers j))
-          (aboves_same ls j (bounds_of answers) (bounds_of (take n answers)) (λ i m. ap (λ (x : Answer). x.bound) (cut i (omega arith))))
-          (s.bounds j (omega arith)));
-    }
+  -- all rows are answered
+  pub all_answered : (ls : List Load) (answers : List Answer) (higher : List (Higher K)) → SoFar ls (length ls) answers higher → Answered ls answers
+  all_answered ls answers higher s = record { count = s.count; rows = s.rows; bounds = s.bounds }

@@ -6,11 +6,9 @@ pub mod Blocked
 pub mod Settled
 pub mod SomeRanked
 pub mod Removal
-pub mod Back
 pub mod Summed
 pub mod Jumps
 pub mod Rising
-pub mod Inserted
 pub mod Ranked
 pub mod Judging
 pub mod Order
@@ -18,3 +16,4 @@ pub mod Verdicts
 pub mod Tested
 pub mod Garage
 pub mod AnyOrder
+pub mod Greatest

@@ -1,13 +1,15 @@
 -- What a judgement of ranked rows says of the rows that are judged together. Assumes nothing.
-use Rattle.std.proofs.Common.{◌≡◌, ℕ, ◌-◌, ◌≤◌, List, [], ◌∷◌, ◌++◌, map, length, take, Option, sym, ap, ◌∙◌, subst, arith}
+use Rattle.std.proofs.Common.{◌≡◌, ℕ, ◌≤◌, List, [], ◌∷◌, ◌++◌, map, length, Ok, Err, Option, Result, sym, ap, ◌∙◌, subst, arith}
 use lib.ListN.{length-map}
-use Rattle.std.proofs.lemmas.List.{length-take-le}
 use Rattle.demand.specs.Demand.{Demand, Lawful}
-use Rattle.analysis.specs.declared.Answer.{Answer}
 use Rattle.analysis.specs.declared.Task.{Task}
-use Rattle.analysis.specs.declared.ranking.Ranking.{Ranking}
+use Rattle.analysis.specs.declared.Answer.{Answer}
+use Rattle.analysis.specs.declared.Rank.{Rank}
+use Rattle.analysis.specs.declared.answers.Answers.{Answers}
+use Rattle.analysis.specs.declared.judgement.JudgeRefusal.{JudgeRefusal}
+use Rattle.analysis.specs.declared.judgement.JudgeRefusal.TheVariants.{TooMany, Late}
 use Rattle.analysis.specs.Candidates.{claims, claim_of, RanksAll}
-use Rattle.analysis.specs.Judge.{Answered, LateRow, InTime, SomeLate}
+use Rattle.analysis.specs.Judge.{Answered, LateRow, InTime, SomeLate, RanksJudged, Judged, answers_of}
 use Rattle.analysis.specs.Plans.{LateExactlyWhenNoPlan}
 use Rattle.analysis.specs.Ranks.{Claim, ranked, loads, rows, system}
 use Rattle.analysis.specs.Removal.{RemovalKeepsInTime}
@@ -34,25 +36,24 @@ module _ {K : Type 0} (demand : K → Demand) (lawful : (k : K) → Lawful (dema
   pub removal : RemovalKeepsInTime judged
   removal = removal_keeps_in_time judged all_lawful
 
-  module _ (k : Ranking) (all : RanksAll demand places newcomer k) where
+  module _ (ranks : List Rank) (all : RanksAll demand places newcomer ranks) (low : length ranks ≤ 12) where
     few : length judged ≤ 12
     few =
-        let count : length judged ≡ k.count =
-        sym (length_ranked judged) ∙ sym (ap length all.ranks) ∙ length-map (take k.count k.ranks) (claim_of demand places newcomer) ∙ length-take-le k.count k.ranks (let a = all.few in let b = all.len in omega arith)
-        in
-        let a = all.few in
+        let count : length judged ≡ length ranks = sym (length_ranked judged) ∙ sym (ap length all) ∙ length-map ranks (claim_of demand places newcomer) in
         omega arith
 
-    -- the part of the array that the ranking fills
-    filled : map (claim_of demand places newcomer) (take (k.count - 0) k.ranks) ≡ ranked judged
-    filled = let e : k.count - 0 ≡ k.count = omega arith in ap (λ (n : ℕ). map (claim_of demand places newcomer) (take n k.ranks)) e ∙ all.ranks
-
-    pub in_time : (answers : List Answer) → Answered (loads (map (claim_of demand places newcomer) (take (k.count - 0) k.ranks))) answers → InTime judged answers
+    pub in_time : (answers : List Answer) → Answered (loads (map (claim_of demand places newcomer) ranks)) answers → InTime judged answers
     in_time answers a =
-        let answered : Answered (loads (ranked judged)) answers = subst (λ (cs : List Claim). Answered (loads cs) answers) filled a in
+        let answered : Answered (loads (ranked judged)) answers = subst (λ (cs : List Claim). Answered (loads cs) answers) all a in
         record { few = few; answered = answered; best_plan = best_plan (system (loads (ranked judged))) needs_grow _ _ answered.bounds }
 
-    pub some_late : (n : ℕ) → LateRow (loads (map (claim_of demand places newcomer) (take (k.count - 0) k.ranks))) n → SomeLate judged n
+    pub some_late : (n : ℕ) → LateRow (loads (map (claim_of demand places newcomer) ranks)) n → SomeLate judged n
     some_late n l =
-        let first : LateRow (loads (ranked judged)) n = subst (λ (cs : List Claim). LateRow (loads cs) n) filled l in
+        let first : LateRow (loads (ranked judged)) n = subst (λ (cs : List Claim). LateRow (loads cs) n) all l in
         record { few = few; first = first; no_plan = late_no_plan (system (loads (ranked judged))) needs_grow first.0 first.1 }
+
+    -- what is answered for the ranks is the judgement
+    pub verdict : (r : Result Answers JudgeRefusal) → RanksJudged (map (claim_of demand places newcomer) ranks) r → Judged judged r
+    verdict (Ok a) answered = in_time (answers_of a) answered
+    verdict (Err TooMany) never = absurd never
+    verdict (Err (Late n)) late = some_late n late

@@ -1,17 +1,27 @@
 // What is answered for a set that is in time.
-ghost use Rattle.std.specs.Prelude.{◌≡◌};
+ghost use Rattle.std.specs.Prelude.{◌≡◌, ◌+◌, ◌<◌, [], ◌∷◌, ◌++◌};
 ghost use Rattle.analysis.specs.Judge.{answers_of};
 
 use super::{Answer, MOST_ROWS};
 
-// The answers for `count` rows, highest first.
-#[derive(Clone, Copy)]
+// The answers for `count` rows, highest first. A caller can copy them, as it could not copy an `ArrayVec`.
+#[derive(Clone, Copy, Default)]
 pub struct Answers {
     pub(crate) count: usize,
-    pub(crate) rows: [Answer; 12],
+    pub(crate) rows: [Answer; MOST_ROWS],
 }
 
 impl Answers {
+    // One answer more.
+    pub(crate) fn push(&mut self, answer: Answer)
+        requires { self.old.count < 12 }
+        ensures count { self.new.count ≡ self.old.count + 1 }
+        ensures answers { answers_of self.new ≡ answers_of self.old ++ answer ∷ [] }
+    {
+        self.rows[self.count] = answer;
+        self.count += 1;
+    }
+
     // The answers, highest row first.
     pub fn rows(&self) -> &[Answer]
         ensures { result.now ≡ answers_of self.now }

@@ -1,58 +1,23 @@
-// The tasks that are judged together: those at the places that have one, and perhaps a newcomer. The newcomer's place is the one
-// behind the last.
-ghost use Rattle.std.specs.Prelude.{◌≡◌, ◌<◌};
-ghost use Rattle.analysis.specs.Candidates.{candidate, demand_of};
+// The tasks that are judged together.
+ghost use Rattle.std.specs.Prelude.{◌≡◌};
+ghost use Rattle.analysis.specs.Candidates.{candidate, demand_of, kind_demand};
 
 use super::Task;
 use demand::Kind;
 
-// What a task's kind answers, all 0 where there is no task.
-fn work_of<K: Kind>(task: &Option<Task<K>>, window: u32) -> u32
-    ensures { result ≡ (demand_of K.demand task.now).work window }
-{
-    match task {
-        Some(task) => task.kind.work(window),
-        None => 0,
-    }
+// The tasks at the places that have one, and perhaps a newcomer. The newcomer's place is the one behind the last.
+#[derive_where(Clone, Copy)]
+pub(crate) struct Candidates<'a, K> {
+    pub(crate) places: &'a [Option<Task<K>>],
+    pub(crate) newcomer: &'a Option<Task<K>>,
 }
 
-// The work of the task at a place in a window; a place without a task has none.
-pub(crate) fn work_at<K: Kind>(
-    places: &[Option<Task<K>>],
-    newcomer: &Option<Task<K>>,
-    place: usize,
-    window: u32,
-) -> u32
-    ensures { result ≡ (demand_of K.demand (candidate places.now newcomer.now place)).work window }
-{
-    if place < places.len() {
-        work_of(&places[place], window)
-    } else {
-        work_of(newcomer, window)
-    }
-}
-
-// The longest and the shortest job of a task; both 0 where there is no task.
-fn jobs_of<K: Kind>(task: &Option<Task<K>>) -> (u32, u32)
-    ensures { (result.0 ≡ (demand_of K.demand task.now).own) × (result.1 ≡ (demand_of K.demand task.now).least) }
-{
-    match task {
-        Some(task) => (task.kind.own(), task.kind.least()),
-        None => (0, 0),
-    }
-}
-
-// The longest and the shortest job of the task at a place.
-pub(crate) fn jobs_at<K: Kind>(
-    places: &[Option<Task<K>>],
-    newcomer: &Option<Task<K>>,
-    place: usize,
-) -> (u32, u32)
-    ensures { (result.0 ≡ (demand_of K.demand (candidate places.now newcomer.now place)).own) × (result.1 ≡ (demand_of K.demand (candidate places.now newcomer.now place)).least) }
-{
-    if place < places.len() {
-        jobs_of(&places[place])
-    } else {
-        jobs_of(newcomer)
+impl<'a, K: Kind> Candidates<'a, K> {
+    // The kind of the task at a place, if there is one.
+    pub(crate) fn kind(&self, place: usize) -> Option<&'a K>
+        ensures { kind_demand K.demand result ≡ demand_of K.demand (candidate self.now.places.now self.now.newcomer.now place) }
+    {
+        let task = self.places.get(place).unwrap_or(self.newcomer).as_ref()?;
+        Some(&task.kind)
     }
 }

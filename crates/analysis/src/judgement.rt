@@ -1,85 +1,78 @@
 // Whether a set of tasks meets its deadlines.
-ghost use Rattle.std.specs.Prelude.{◌+◌, ◌^◌, ◌≤◌, map, length};
-ghost use Rattle.analysis.specs.Candidates.{claim_of, claims};
+ghost use Rattle.std.specs.Prelude.{◌≡◌, ◌+◌, ◌^◌, ◌≤◌, map, length};
+ghost use Rattle.analysis.specs.Candidates.{claim_of, claims, kind_demand};
 ghost use Rattle.analysis.specs.Judge.{RankJudged, RanksJudged, Judged};
 ghost use Rattle.analysis.specs.Plans.{LateExactlyWhenNoPlan};
 ghost use Rattle.analysis.specs.Ranks.{ranked, system_of, AnyOrder, HighestFirst};
 ghost use Rattle.analysis.specs.Removal.{RemovalKeepsInTime};
 
 use super::answers::Answers;
-use super::candidates::jobs_at;
+use super::candidates::Candidates;
+use super::higher::{Higher, HigherRows};
 use super::locks::{blocking_of, ceilings_of};
-use super::ranking::rank_all;
 use super::search::search;
-use super::{Answer, Higher, Rank, Task};
+use super::{Answer, Rank, Task};
 use demand::Kind;
 
-const NO_ANSWER: Answer = Answer {
-    number: 0,
-    bound: 0,
-    vector: 0,
-    blocking: 0,
-};
-
-const NO_HIGHER: Higher = Higher {
-    place: 0,
-    wait: 0,
-    jitter: 0,
-};
-
-// The answer for one rank, and the row as those below meet it.
-fn judge_rank<K: Kind>(
-    places: &[Option<Task<K>>],
-    newcomer: &Option<Task<K>>,
-    higher: &[Higher],
-    rank: Rank,
-    blocking: u64,
-) -> Option<(Answer, Higher)>
-    requires few { length higher.now ≤ 31 }
-    requires fits { blocking + 2 ^ 32 ≤ 2 ^ 64 }
-    ensures { RankJudged K.demand places.now newcomer.now higher.now rank blocking result }
+// The longest and the shortest job of a kind; both 0 where there is none.
+fn jobs_of<K: Kind>(kind: Option<&K>) -> (u32, u32)
+    ensures own { result.0 ≡ (kind_demand K.demand kind.entry).own }
+    ensures least { result.1 ≡ (kind_demand K.demand kind.entry).least }
 {
-    let wait = u64::from(rank.row.suspension) + blocking;
-    let (own, least) = jobs_at(places, newcomer, rank.place);
-    let alone = wait.saturating_add(u64::from(own));
-    let (bound, vector) = search(places, newcomer, higher, alone, rank.row.deadline)?;
-    let answer = Answer {
-        number: rank.row.number,
-        bound,
-        vector,
-        blocking,
-    };
-    let met = Higher {
-        place: rank.place,
-        wait,
-        jitter: u64::from(bound.saturating_sub(least)),
-    };
-    Some((answer, met))
+    match kind {
+        Some(kind) => (kind.own(), kind.least()),
+        None => (0, 0),
+    }
 }
 
-// The answers for all ranks, or the number of the first late row.
-fn judge_ranked<K: Kind>(
-    places: &[Option<Task<K>>],
-    newcomer: &Option<Task<K>>,
-    ranks: &[Rank],
-) -> Result<Answers, u32>
-    requires { length ranks.now ≤ 12 }
-    ensures { RanksJudged (map (claim_of K.demand places.now newcomer.now) ranks.now) result }
-{
-    let ceilings = ceilings_of(ranks);
-    let mut rows = [NO_ANSWER; 12];
-    let mut higher = [NO_HIGHER; 12];
-    for k in 0..ranks.len() {
-        let rank = ranks[k];
-        let blocking = blocking_of(&ceilings, &rank.row, &ranks[k + 1..]);
-        let Some((answer, met)) = judge_rank(places, newcomer, &higher[0..k], rank, blocking) else {
-            return Err(rank.row.number);
+impl<'a, K: Kind> Candidates<'a, K> {
+    // The answer for one rank, and the row as those below meet it.
+    fn judge_rank(
+        &self,
+        higher: &HigherRows<'a, K>,
+        rank: &Rank,
+        blocking: u64,
+    ) -> Option<(Answer, Higher<'a, K>)>
+        requires { blocking + 2 ^ 32 ≤ 2 ^ 64 }
+        ensures { RankJudged K.demand self.now.places.now self.now.newcomer.now higher.now.items rank.now blocking result }
+    {
+        let wait = u64::from(rank.row.suspension) + blocking;
+        let kind = self.kind(rank.place);
+        let (own, least) = jobs_of(kind);
+        let alone = wait.saturating_add(u64::from(own));
+        let (bound, vector) = search(higher, alone, rank.row.deadline)?;
+        let answer = Answer {
+            number: rank.row.number,
+            bound,
+            vector,
+            blocking,
         };
-        rows[k] = answer;
-        higher[k] = met;
+        let met = Higher {
+            kind,
+            wait,
+            jitter: u64::from(bound.saturating_sub(least)),
+        };
+        Some((answer, met))
     }
-    let count = ranks.len();
-    Ok(Answers { count, rows })
+
+    // The answers for all ranks, unless some row is late.
+    fn judge_ranked(&self, ranks: &[Rank]) -> Result<Answers, JudgeRefusal>
+        requires { length ranks.now ≤ 12 }
+        ensures { RanksJudged (map (claim_of K.demand self.now.places.now self.now.newcomer.now) ranks.now) result }
+    {
+        let ceilings = ceilings_of(ranks);
+        let mut answers = Answers::default();
+        let mut higher = HigherRows::new();
+        for (k, rank) in ranks.iter().enumerate() {
+            let blocking = blocking_of(&ceilings, &rank.row, &ranks[k + 1..]);
+            let (answer, met) = self
+                .judge_rank(&higher, rank, blocking)
+                .ok_or(JudgeRefusal::Late(rank.row.number))?;
+            answers.push(answer);
+            higher.push(met);
+        }
+        Ok(answers)
+    }
 }
 
 // Why a set of tasks is not in time.
@@ -102,11 +95,7 @@ pub fn judge<K: Kind>(
     ensures any_order { AnyOrder (claims K.demand places.now newcomer.now) }
     ensures highest_first { HighestFirst (claims K.demand places.now newcomer.now) (ranked (claims K.demand places.now newcomer.now)) }
 {
-    let Some(ranking) = rank_all(places, newcomer) else {
-        return Err(JudgeRefusal::TooMany);
-    };
-    match judge_ranked(places, newcomer, &ranking.ranks[0..ranking.count]) {
-        Ok(answers) => Ok(answers),
-        Err(number) => Err(JudgeRefusal::Late(number)),
-    }
+    let candidates = Candidates { places, newcomer };
+    let ranks = candidates.ranks()?;
+    candidates.judge_ranked(ranks.as_slice())
 }

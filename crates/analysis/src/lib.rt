@@ -7,6 +7,7 @@ ghost use Rattle.analysis.specs.Figures.{GarageFigures};
 mod answers;
 mod candidates;
 mod cover;
+mod higher;
 mod judgement;
 mod locks;
 mod ranking;
@@ -25,7 +26,7 @@ pub const MOST_ROWS: usize = 12;
 pub const LOCKS: usize = 8;
 
 // The numbers of a task. A larger priority is higher.
-#[derive(Clone, Copy)]
+#[derive(Clone, Copy, Default)]
 pub struct Row {
     pub number: u32,
     pub priority: u32,
@@ -34,7 +35,7 @@ pub struct Row {
     pub suspensions: u32,
     pub deadline: u32,
     // the longest section on each lock; 0 says that the row does not use it
-    pub sections: [u32; 8],
+    pub sections: [u32; LOCKS],
 }
 
 // A row with its kind of demand.
@@ -45,22 +46,14 @@ pub struct Task<K> {
 }
 
 // A row where it stands among ranked rows, and the place that it was found at.
-#[derive(Clone, Copy)]
+#[derive(Clone, Copy, Default)]
 pub struct Rank {
     pub row: Row,
     pub place: usize,
 }
 
-// A row as a lower row meets it: how long it waits, and its jitter, which is its bound less its least job.
-#[derive(Clone, Copy)]
-pub(crate) struct Higher {
-    place: usize,
-    wait: u64,
-    jitter: u64,
-}
-
 // What is answered for a row: its bound, the vector that gives it, and how long it can be blocked.
-#[derive(Clone, Copy)]
+#[derive(Clone, Copy, Default)]
 pub struct Answer {
     pub number: u32,
     pub bound: u32,

@@ -1,24 +1,21 @@
 // The search for a row's bound and vector.
-ghost use Rattle.std.specs.Prelude.{◌^◌, ◌≤◌, length};
+ghost use Rattle.std.specs.Prelude.{◌^◌, length};
 ghost use Rattle.analysis.specs.Candidates.{need_with};
 ghost use Rattle.analysis.specs.Plans.{Searched};
 
 use super::cover::need_by;
-use super::{Higher, Task};
+use super::higher::HigherRows;
 use demand::Kind;
 
 // The least window from 1 to the deadline that covers under some vector, with the smallest vector that covers at it.
 // Where no vector covers at a window, the next one to try is the least that is needed by it under any vector: what is
 // needed never falls as the window grows, so no window between the two covers.
 pub(crate) fn search<K: Kind>(
-    places: &[Option<Task<K>>],
-    newcomer: &Option<Task<K>>,
-    higher: &[Higher],
+    higher: &HigherRows<'_, K>,
     alone: u64,
     deadline: u32,
 ) -> Option<(u32, u32)>
-    requires { length higher.now ≤ 31 }
-    ensures { Searched (need_with K.demand places.now newcomer.now higher.now alone) deadline (2 ^ length higher.now) result }
+    ensures { Searched (need_with K.demand higher.now.items alone) deadline (2 ^ length higher.now.items) result }
 {
     let vectors = 1u32 << higher.len();
     let mut window = 1u64;
@@ -28,7 +25,7 @@ pub(crate) fn search<K: Kind>(
         }
         let mut next = u64::MAX;
         'vectors: for vector in 0..vectors {
-            let need = need_by(places, newcomer, higher, alone, vector, window as u32);
+            let need = need_by(higher, alone, vector, window as u32);
             if need <= window {
                 break 'windows Some((window as u32, vector));
             }

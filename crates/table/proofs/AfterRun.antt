@@ -7,23 +7,24 @@ use Rattle.analysis.proofs.Ranked.{length_ranked}
 use Rattle.table.specs.declared.SpendRefusal.TheVariants.{NotHeld}
 use Rattle.table.specs.declared.WithdrawRefusal.TheVariants.{NoSuchRow, NotKept}
 use Rattle.table.specs.Account.{Account, Bears, fresh, number_of, has_number}
-use Rattle.table.specs.Agreement.{NoneNamed, DistinctNumbers, OwnHolds}
+use Rattle.table.specs.Agreement.{DistinctNumbers, OwnHolds}
 use Rattle.table.specs.Runs.{Event, holding, keeping, releasing, withdrawing, bounding, Run, begin, more, Step, Among, EveryRun}
 use Rattle.table.proofs.Kept.{sound}
+use Rattle.table.proofs.Parts.{none_among}
 use Rattle.table.proofs.Promise as promise
 
 -- a step changes neither the number nor the room
 same_number : (a b : Account) (e : Event) → Step a e b → (b.number ≡ a.number) × (b.room ≡ a.room)
-same_number a b (holding c (Ok h)) s = (ap (λ (x : Account). x.number) s.1.1, ap (λ (x : Account). x.room) s.1.1)
-same_number a b (holding c (Err e)) s = (ap (λ (x : Account). x.number) s.1.1, ap (λ (x : Account). x.room) s.1.1)
-same_number a b (keeping h (Ok u)) s = (ap (λ (x : Account). x.number) s.1, ap (λ (x : Account). x.room) s.1)
-same_number a b (keeping h (Err (NotHeld g))) s = (ap (λ (x : Account). x.number) s.2, ap (λ (x : Account). x.room) s.2)
-same_number a b (releasing h (Ok u)) s = (ap (λ (x : Account). x.number) s.1, ap (λ (x : Account). x.room) s.1)
-same_number a b (releasing h (Err (NotHeld g))) s = (ap (λ (x : Account). x.number) s.2, ap (λ (x : Account). x.room) s.2)
-same_number a b (withdrawing n (Ok u)) s = (ap (λ (x : Account). x.number) s.2, ap (λ (x : Account). x.room) s.2)
-same_number a b (withdrawing n (Err NoSuchRow)) s = (ap (λ (x : Account). x.number) s.1, ap (λ (x : Account). x.room) s.1)
-same_number a b (withdrawing n (Err NotKept)) s = (ap (λ (x : Account). x.number) s.2, ap (λ (x : Account). x.room) s.2)
-same_number a b (bounding n r) s = (ap (λ (x : Account). x.number) s.1, ap (λ (x : Account). x.room) s.1)
+same_number a b (holding c (Ok h)) s = rw s.1.1 (refl, refl)
+same_number a b (holding c (Err e)) s = rw s.1.1 (refl, refl)
+same_number a b (keeping h (Ok u)) s = rw s.1 (refl, refl)
+same_number a b (keeping h (Err (NotHeld g))) s = rw s.2 (refl, refl)
+same_number a b (releasing h (Ok u)) s = rw s.1 (refl, refl)
+same_number a b (releasing h (Err (NotHeld g))) s = rw s.2 (refl, refl)
+same_number a b (withdrawing n (Ok u)) s = rw s.2 (refl, refl)
+same_number a b (withdrawing n (Err NoSuchRow)) s = rw s.1 (refl, refl)
+same_number a b (withdrawing n (Err NotKept)) s = rw s.2 (refl, refl)
+same_number a b (bounding n r) s = rw s.1 (refl, refl)
 
 numbers : (number room : ℕ) {es : List Event} {a : Account} → Run (fresh number room) es a → (a.number ≡ number) × (a.room ≡ room)
 numbers number room begin = (refl, refl)
@@ -46,16 +47,11 @@ rank_among all c [] m = absurd m
 rank_among all c (d ∷ ds) (inl e) = (0, omega arith, e)
 rank_among all c (d ∷ ds) (inr m) = let rest = rank_among all c ds m in (suc rest.0, omega (arith, rest.1), rest.2)
 
-not_named : (n : ℕ) (c : Claim) (cs : List Claim) → NoneNamed n cs → Among c cs → number_of c ≡ n → ⊥
-not_named n c [] h m e = m
-not_named n c (d ∷ ds) h (inl p) e = h.0 (ap number_of p ∙ e)
-not_named n c (d ∷ ds) h (inr m) e = not_named n c ds h.1 m e
-
 one_named : (cs : List Claim) → DistinctNumbers cs → (c d : Claim) → Among c cs → Among d cs → number_of c ≡ number_of d → c ≡ d
 one_named [] h c d m k e = absurd m
 one_named (x ∷ xs) h c d (inl p) (inl q) e = sym p ∙ q
-one_named (x ∷ xs) h c d (inl p) (inr k) e = absurd (not_named (number_of x) d xs h.0 k (sym e ∙ ap number_of (sym p)))
-one_named (x ∷ xs) h c d (inr m) (inl q) e = absurd (not_named (number_of x) c xs h.0 m (e ∙ ap number_of (sym q)))
+one_named (x ∷ xs) h c d (inl p) (inr k) e = absurd (none_among (number_of x) xs h.0 d k (sym e ∙ ap number_of (sym p)))
+one_named (x ∷ xs) h c d (inr m) (inl q) e = absurd (none_among (number_of x) xs h.0 c m (e ∙ ap number_of (sym q)))
 one_named (x ∷ xs) h c d (inr m) (inr k) e = one_named xs h.1 c d m k e
 
 own_among : (table : ℕ) (cs : List Claim) (hs : List Bears) → OwnHolds table cs hs → (h : Bears) → Among h hs → (h.table ≡ table) × (has_number h.row cs ≡ true)

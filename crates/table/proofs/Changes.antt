@@ -1,9 +1,9 @@
--- The table and the account after a call that takes a row in or out. Assumes nothing.
+-- The table and the account after a call that writes a place. Assumes nothing.
 use Rattle.std.proofs.Common.{◌≡◌, ℕ, zero, suc, ◌<◌, min, Bool, true, false, cond, ◌&&◌, ◌||◌, eqb, ◌≢◌, List, [], ◌∷◌, length, get_or, take, set, Some, None, Option, sym, refl, ap, ◌∙◌, subst, subst₂, not-suc-le-zero, arith, eq-eqb, ne_eqb}
+use mathlib.Core.Path.{subst₃}
 use native.Mathlib.Decide.{ℕ_discrete}
 use lib.Seq.{take-set-lt}
-use borrow.Author.Tests.{eqb-false}
-use Rattle.std.proofs.lemmas.List.{length-set, length-take, get_or-set_same, get_or-set_other, get_or-take}
+use Rattle.std.proofs.lemmas.List.{length-set, length-take, get_or-set_same, get_or-set_other, get_or-take, set-get_or}
 use Rattle.demand.specs.Demand.{Demand, Lawful}
 use Rattle.demand.specs.Refusals.{first}
 use Rattle.analysis.specs.declared.Task.{Task}
@@ -12,32 +12,23 @@ use Rattle.analysis.specs.Ranks.{Claim, Reordered, same, next, swapped, through}
 use Rattle.table.specs.declared.Hold.{Hold}
 use Rattle.table.specs.declared.State.{State}
 use Rattle.table.specs.declared.State.TheVariants.{Free, Held, Kept}
-use Rattle.table.specs.Account.{Account, Bears, number_of, hold_checks, bears, unspent, spent, without, AllInTime, with_row, with_released, with_withdrawn}
-use Rattle.table.specs.Agreement.{NoneNamed, DistinctNumbers, Sound, StandsAt, Agrees}
-use Rattle.table.specs.Places.{is_free}
-use Rattle.table.proofs.Kept.{with_row_sound, released_sound, with_withdrawn_sound}
+use Rattle.table.specs.declared.Table.{Table}
+use Rattle.table.specs.Account.{Account, Bears, number_of, hold_checks, bears, unspent, spent, without, AllInTime, with_row, with_kept, with_released, with_withdrawn}
+use Rattle.table.specs.Agreement.{NoneNamed, Sound, StandsAt, Agrees, AgreesWith}
+use Rattle.table.specs.Memory.{PutAt}
+use Rattle.table.specs.Places.{At, HeldHere}
+use Rattle.table.proofs.Kept.{with_row_sound, with_kept_sound, released_sound, with_withdrawn_sound}
 use Rattle.table.proofs.Parts.{bears_other, others_stay}
-use Rattle.table.proofs.Shared.{reordered_refl, reordered_back, named_reordered, numbers_reordered, passed, none_some, none_named_at, free_none, stands_still}
-use Rattle.table.proofs.Spending.{held_at, kept_at, is_spent}
+use Rattle.table.proofs.Shared.{reordered_refl, reordered_back, named_reordered, numbers_reordered, passed, none_named_at, stands_still}
+use Rattle.table.proofs.Spending.{stands, held_at, kept_at, is_kept, is_unspent, spent_gone}
 
 without_it : (n : ℕ) (c : Claim) (cs : List Claim) → number_of c ≡ n → without n (c ∷ cs) ≡ without n cs
 without_it n c cs e = ap (λ b. cond b (without n cs) (c ∷ without n cs)) (eq-eqb (number_of c) n e)
 
-without_other : (n : ℕ) (c : Claim) (cs : List Claim) → number_of c ≢ n → without n (c ∷ cs) ≡ c ∷ without n cs
-without_other n c cs ne = ap (λ b. cond b (without n cs) (c ∷ without n cs)) (ne_eqb (number_of c) n ne)
-
 without_none : (n : ℕ) (cs : List Claim) → NoneNamed n cs → without n cs ≡ cs
 without_none n [] h = refl
-without_none n (c ∷ cs) h = without_other n c cs h.0 ∙ ap (λ xs. c ∷ xs) (without_none n cs h.1)
-
--- none that is left has the number
-none_left : (n : ℕ) (cs : List Claim) → NoneNamed n (without n cs)
-none_left n [] = tt
-none_left n (c ∷ cs) = go (eqb (number_of c) n) refl (none_left n cs)
-  where
-    go : (b : Bool) → eqb (number_of c) n ≡ b → NoneNamed n (without n cs) → NoneNamed n (cond b (without n cs) (c ∷ without n cs))
-    go true e h = h
-    go false e h = (eqb-false (number_of c) n e, h)
+without_none n (c ∷ cs) h =
+    ap (λ b. cond b (without n cs) (c ∷ without n cs)) (ne_eqb (number_of c) n h.0) ∙ ap (λ xs. c ∷ xs) (without_none n cs h.1)
 
 without_reordered : (n : ℕ) {xs ys : List Claim} → Reordered xs ys → Reordered (without n xs) (without n ys)
 without_reordered n same = same
@@ -64,90 +55,113 @@ unspent_new table n hs = ap (λ b. b || unspent table n hs) (bears_it table n (r
 unspent_more : (table m n : ℕ) → m ≢ n → (hs : List Bears) → unspent table m (record { table = table; row = n } ∷ hs) ≡ unspent table m hs
 unspent_more table m n ne hs = ap (λ b. b || unspent table m hs) (bears_other table m n (record { table = table; row = n }) refl ne)
 
--- the default, once set, is there, also past the end
-default_set : {X : Type 0} (xs : List X) (p : ℕ) (d : X) → get_or (set xs p d) p d ≡ d
-default_set [] p d = refl
-default_set (x ∷ xs) zero d = refl
-default_set (x ∷ xs) (suc p) d = default_set xs p d
-
 module _ {K : Type 0} (demand : K → Demand) where
-  put_in : (os : List (Option (Task K))) (p : ℕ) (t : Task K) → p < length os → get_or os p None ≡ None → Reordered (claims_of demand (set os p (Some t))) (record { row = t.row; demand = demand t.kind } ∷ claims_of demand os)
-  put_in [] p t l e = absurd (not-suc-le-zero l)
-  put_in (None ∷ os) zero t l e = reordered_refl _
-  put_in (Some u ∷ os) zero t l e = absurd (none_some u (sym e))
-  put_in (None ∷ os) (suc p) t l e = put_in os p t (omega arith) e
-  put_in (Some u ∷ os) (suc p) t l e = through (next (put_in os p t (omega arith) e)) swapped
+  abbrev pub claim : Task K → Claim
+  claim u = record { row = u.row; demand = demand u.kind }
 
-  take_out : (n : ℕ) (os : List (Option (Task K))) (p : ℕ) (t : Task K) → get_or os p None ≡ Some t → t.row.number ≡ n → DistinctNumbers (claims_of demand os) → claims_of demand (set os p None) ≡ without n (claims_of demand os)
-  take_out n [] p t e is d = absurd (none_some t e)
-  take_out n (None ∷ os) zero t e is d = absurd (none_some t e)
-  take_out n (Some u ∷ os) zero t e is d =
-      let it : u ≡ t = cc in
-      let num : u.row.number ≡ n = ap (λ (v : Task K). v.row.number) it ∙ is in
-      sym (without_it n _ (claims_of demand os) num ∙ without_none n (claims_of demand os) (subst (λ (m : ℕ). NoneNamed m (claims_of demand os)) num d.0))
-  take_out n (None ∷ os) (suc p) t e is d = take_out n os p t e is d
-  take_out n (Some u ∷ os) (suc p) t e is d =
-      let ne : u.row.number ≢ n = λ k. none_named_at demand u.row.number os p t d.0 e (is ∙ sym k) in
-      ap (λ cs. record { row = u.row; demand = demand u.kind } ∷ cs) (take_out n os p t e is d.1) ∙ sym (without_other n _ (claims_of demand os) ne)
+  -- a task that is put at a place
+  put_in : (os : List (Option (Task K))) (p : ℕ) (u : Task K) → p < length os → Reordered (claims_of demand (set os p (Some u))) (claim u ∷ claims_of demand (set os p None))
+  put_in [] p u l = absurd (not-suc-le-zero l)
+  put_in (None ∷ os) zero u l = reordered_refl _
+  put_in (Some x ∷ os) zero u l = reordered_refl _
+  put_in (None ∷ os) (suc p) u l = put_in os p u (omega arith)
+  put_in (Some x ∷ os) (suc p) u l = through (next (put_in os p u (omega arith))) swapped
 
-  module _ (a : Account) (number : ℕ) (states : List State) (places : List (Option (Task K))) (agrees : Agrees demand a number states places) (long : length states ≡ 12) where
-    after : (b : Account) (n : ℕ) → ((m : ℕ) → m ≢ n → unspent b.number m b.holds ≡ unspent a.number m a.holds) → (p : ℕ) → p < 12 → (s : State) (o : Option (Task K)) → StandsAt b s o → get_or (set places p o) p None ≡ o → ((i : ℕ) → i ≢ p → (t : Task K) → get_or (take 12 places) i None ≡ Some t → t.row.number ≢ n) → (i : ℕ) → i < 12 → StandsAt b (get_or (set states p s) i Free) (get_or (take 12 (set places p o)) i None)
-    after b n still p low s o new here others i l = elim (ℕ_discrete i p) [
-      | yes e ↦
-          subst (λ (j : ℕ). StandsAt b (get_or (set states p s) j Free) (get_or (take 12 (set places p o)) j None)) (sym e)
-          (subst₂ (StandsAt b) (sym (get_or-set_same states p s Free (omega arith))) (sym (get_or-take 12 (set places p o) p None low ∙ here)) new)
-      | no ne ↦
-          subst₂ (StandsAt b) (sym (get_or-set_other states p i s Free ne))
-          (sym (ap (λ xs. get_or xs i None) (take-set-lt 12 places p o low) ∙ get_or-set_other (take 12 places) p i o None ne))
-          (stands_still a b n still (get_or states i Free) (get_or (take 12 places) i None) (others i ne) (agrees.at_each i l))
-    ]
+module _ {K : Type 0} {demand : K → Demand} {a : Account} (t : Table K) (agrees : AgreesWith demand a t) (p : ℕ) (low : p < 12) (within : p < length t.places.now) where
+  abbrev os : List (Option (Task K))
+  os = take 12 t.places.now
 
-    room_still : (p : ℕ) (o : Option (Task K)) → a.room ≡ min (length (set places p o)) 12
-    room_still p o = agrees.room_is ∙ ap (λ n. min n 12) (sym (length-set places p o))
+  -- the rows of the other places
+  abbrev rest : List Claim
+  rest = claims_of demand (set os p None)
 
-    -- the row with the number n goes out from its place, and leaves these holds
-    row_out : (p n : ℕ) → p < 12 → (t : Task K) → get_or (take 12 places) p None ≡ Some t → n ≡ t.row.number → (hs : List Bears) → ((m : ℕ) → m ≢ n → unspent a.number m hs ≡ unspent a.number m a.holds) → Sound (record { number = a.number; room = a.room; rows = without n a.rows; holds = hs }) → Agrees demand (record { number = a.number; room = a.room; rows = without n a.rows; holds = hs }) number (set states p Free) (set places p None)
-    row_out p n low t at is hs still sound =
-        let out : claims_of demand (set (take 12 places) p None) ≡ without n (claims_of demand (take 12 places)) = take_out n (take 12 places) p t at (sym is) (numbers_reordered (reordered_back agrees.rows_are) agrees.sound.numbers) in
-        let gone : NoneNamed n (claims_of demand (set (take 12 places) p None)) = subst (NoneNamed n) (sym out) (none_left n (claims_of demand (take 12 places))) in
-        record {
-          number_is = agrees.number_is;
-          states_are = length-set states p Free ∙ long;
-          room_is = room_still p None;
-          rows_are = subst (λ cs. Reordered cs (without n a.rows)) (sym (ap (claims_of demand) (take-set-lt 12 places p None low) ∙ out)) (without_reordered n agrees.rows_are);
-          at_each = after (record { number = a.number; room = a.room; rows = without n a.rows; holds = hs }) n still p low Free None tt (default_set places p None)
-              (λ i ne u e. none_named_at demand n (set (take 12 places) p None) i u gone (get_or-set_other (take 12 places) p i None None ne ∙ e));
-          sound = sound;
-        }
+  -- the place is written, where no other has a row of the number n
+  written : (b : Account) (n : ℕ) → b.number ≡ a.number → b.room ≡ a.room → ((m : ℕ) → m ≢ n → unspent b.number m b.holds ≡ unspent a.number m a.holds) → NoneNamed n rest → (s : State) (o : Option (Task K)) → StandsAt b s o → Reordered (claims_of demand (set os p o)) b.rows → Sound b → Agrees demand b t.number (set t.states p s) (set t.places.now p o)
+  written b n number room still apart s o new rows sound = record {
+    number_is = number ∙ agrees.number_is;
+    states_are = length-set t.states p s ∙ agrees.states_are;
+    room_is = room ∙ agrees.room_is ∙ ap (λ k. min k 12) (sym (length-set t.places.now p o));
+    rows_are = rw take-set-lt rows;
+    at_each = each;
+    sound = sound;
+  }
+    where
+      each : (i : ℕ) → i < 12 → StandsAt b (get_or (set t.states p s) i Free) (get_or (take 12 (set t.places.now p o)) i None)
+      each i l = elim (ℕ_discrete i p) [
+        | yes e ↦
+            subst (λ (j : ℕ). StandsAt b (get_or (set t.states p s) j Free) (get_or (take 12 (set t.places.now p o)) j None)) (sym e)
+            (subst₂ (StandsAt b) (sym (get_or-set_same t.states p s Free (let all = agrees.states_are in omega arith)))
+            (sym (get_or-take 12 (set t.places.now p o) p None low ∙ get_or-set_same t.places.now p o None within)) new)
+        | no ne ↦
+            subst₂ (StandsAt b) (sym (get_or-set_other t.states p i s Free ne))
+            (sym (ap (λ xs. get_or xs i None) (take-set-lt 12 t.places.now p o low) ∙ get_or-set_other os p i o None ne))
+            (stands_still a b n still (get_or t.states i Free) (get_or os i None) (λ u e. none_named_at demand n (set os p None) i u apart (get_or-set_other os p i None None ne ∙ e)) (agrees.at_each i l))
+      ]
 
-module _ {K : Type 0} (demand : K → Demand) (a : Account) (number : ℕ) (states : List State) (places : List (Option (Task K))) (agrees : Agrees demand a number states places) (long : length states ≡ 12) where
-  pub row_in : (p : ℕ) → p < 12 → p < length places → is_free (get_or states p Free) ≡ true → (t : Task K) → Lawful (demand t.kind) → first (hold_checks a (record { row = t.row; demand = demand t.kind })) ≡ 0 → AllInTime (record { row = t.row; demand = demand t.kind } ∷ a.rows) → Agrees demand (with_row a (record { row = t.row; demand = demand t.kind })) number (set states p (Held t.row.number)) (set places p (Some t))
-  row_in p low within free t lawful passes in_time =
-      let c : Claim = record { row = t.row; demand = demand t.kind } in
-      let n : ℕ = t.row.number in
-      let empty : get_or (take 12 places) p None ≡ None = free_none a (get_or states p Free) (get_or (take 12 places) p None) (agrees.at_each p low) free in
-      let apart : NoneNamed n (claims_of demand (take 12 places)) = named_reordered n (reordered_back agrees.rows_are) (passed a c passes).number in
-      let room : p < length (take 12 places) = omega (arith, length-take 12 places) in
-      record {
-        number_is = agrees.number_is;
-        states_are = length-set states p (Held n) ∙ long;
-        room_is = room_still demand a number states places agrees long p (Some t);
-        rows_are = subst (λ os. Reordered (claims_of demand os) (c ∷ a.rows)) (sym (take-set-lt 12 places p (Some t) low)) (through (put_in demand (take 12 places) p t room empty) (next agrees.rows_are));
-        at_each = after demand a number states places agrees long (with_row a c) n (λ m ne. unspent_more a.number m n ne a.holds) p low (Held n) (Some t)
-            (refl, unspent_new a.number n a.holds) (get_or-set_same places p (Some t) None within) (λ i ne u e. none_named_at demand n (take 12 places) i u apart e);
-        sound = with_row_sound a agrees.sound c lawful passes in_time;
-      }
+  -- a row of the number n at the place
+  module _ (u : Task K) (at : get_or os p None ≡ Some u) where
+    there : set os p (Some u) ≡ os
+    there = subst (λ o. set os p o ≡ os) at (set-get_or os p None)
 
-  pub row_released : (p n : ℕ) → p < 12 → get_or states p Free ≡ Held n → (h : Hold) → h.table ≡ number → h.row ≡ n → Agrees demand (with_released a h) number (set states p Free) (set places p None)
-  row_released p n low at h table row =
-      let it = held_at demand a number states places agrees long p n low at in
-      subst₂ (λ (k m : ℕ). Agrees demand (record { number = a.number; room = a.room; rows = without m a.rows; holds = spent k m a.holds }) number (set states p Free) (set places p None))
-      (agrees.number_is ∙ sym table) (sym row)
-      (row_out demand a number states places agrees long p n low it.0 it.1 it.2 (spent a.number n a.holds)
-      (λ m ne. others_stay a.number n a.number m a.holds ne) (released_sound a agrees.sound a.number n it.3))
+    split : Reordered a.rows (claim demand u ∷ rest)
+    split = through (reordered_back agrees.rows_are) (subst (λ xs. Reordered (claims_of demand xs) (claim demand u ∷ rest)) there (put_in demand os p u (let l = length-take 12 t.places.now in omega arith)))
 
-  pub row_withdrawn : (p n : ℕ) → p < 12 → get_or states p Free ≡ Kept n → Agrees demand (with_withdrawn a n) number (set states p Free) (set places p None)
-  row_withdrawn p n low at =
-      let it = kept_at demand a number states places agrees long p n low at in
-      row_out demand a number states places agrees long p n low it.0 it.1 it.2 a.holds (λ m ne. refl)
-      (with_withdrawn_sound a agrees.sound n (is_spent demand a number states places agrees long p n low at).1)
+    alone : NoneNamed u.row.number rest
+    alone = (numbers_reordered split agrees.sound.numbers).0
+
+    -- it goes out, and leaves these holds
+    row_out : (n : ℕ) → n ≡ u.row.number → (hs : List Bears) → ((m : ℕ) → m ≢ n → unspent a.number m hs ≡ unspent a.number m a.holds) → Sound (record { number = a.number; room = a.room; rows = without n a.rows; holds = hs }) → Agrees demand (record { number = a.number; room = a.room; rows = without n a.rows; holds = hs }) t.number (set t.states p Free) (set t.places.now p None)
+    row_out n is hs still sound =
+        let apart : NoneNamed n rest = subst (λ m. NoneNamed m rest) (sym is) alone in
+        written (record { number = a.number; room = a.room; rows = without n a.rows; holds = hs }) n refl refl still apart Free None tt
+        (reordered_back (subst (Reordered (without n a.rows)) (without_it n (claim demand u) rest (sym is) ∙ without_none n rest apart) (without_reordered n split))) sound
+
+-- a table after a place was written, by what was written
+put_agrees : {K : Type 0} {demand : K → Demand} {b : Account} {t u : Table K} {p : ℕ} {s : State} {o : Option (Task K)} → PutAt t u p s o → Agrees demand b t.number (set t.states p s) (set t.places.now p o) → AgreesWith demand b u
+put_agrees {demand = demand} {b = b} put agrees = subst₃ (Agrees demand b) (sym put.number) (sym put.states) (sym put.places) agrees
+
+nothing_stands : {K : Type 0} (a : Account) (o : Option (Task K)) → StandsAt a Free o → o ≡ None
+nothing_stands a None s = refl
+nothing_stands a (Some u) s = absurd s
+
+module _ {K : Type 0} {demand : K → Demand} {a : Account} (t : Table K) (agrees : AgreesWith demand a t) where
+  -- a row comes in at a free place
+  pub row_in : (u : Table K) (p : ℕ) → At t (λ s. s ≡ Free) p → (task : Task K) → PutAt t u p (Held task.row.number) (Some task) → Lawful (demand task.kind) → first (hold_checks a (claim demand task)) ≡ 0 → AllInTime (claim demand task ∷ a.rows) → AgreesWith demand (with_row a (claim demand task)) u
+  row_in u p at task put lawful passes in_time =
+      let n : ℕ = task.row.number in
+      let empty : set (take 12 t.places.now) p None ≡ take 12 t.places.now = subst (λ o. set (take 12 t.places.now) p o ≡ take 12 t.places.now) (nothing_stands a (get_or (take 12 t.places.now) p None) (stands t agrees Free p at)) (set-get_or (take 12 t.places.now) p None) in
+      let rows : Reordered (claims_of demand (set (take 12 t.places.now) p None)) a.rows = subst (λ xs. Reordered (claims_of demand xs) a.rows) (sym empty) agrees.rows_are in
+      put_agrees put
+      (written t agrees p at.0.0 at.0.1 (with_row a (claim demand task)) n refl refl (λ m ne. unspent_more a.number m n ne a.holds)
+      (named_reordered n (reordered_back rows) (passed a (claim demand task) passes).number) (Held n) (Some task) (refl, unspent_new a.number n a.holds)
+      (through (put_in demand (take 12 t.places.now) p task (let l = length-take 12 t.places.now in let w = at.0 in omega arith)) (next rows))
+      (with_row_sound a agrees.sound (claim demand task) lawful passes in_time))
+
+  -- the hold of a row that is held here is spent, and the row stays
+  pub row_kept : (h : Hold) (p : ℕ) → HeldHere t h p → Agrees demand (with_kept a h) t.number (set t.states p (Kept h.row)) t.places.now
+  row_kept h p here =
+      let it = held_at t agrees h.row p here.1 in
+      let is : get_or t.places.now p None ≡ Some it.task = sym (get_or-take 12 t.places.now p None here.1.0.0) ∙ it.stands in
+      let same_places : set t.places.now p (Some it.task) ≡ t.places.now = subst (λ o. set t.places.now p o ≡ t.places.now) is (set-get_or t.places.now p None) in
+      let table : h.table ≡ a.number = here.0 ∙ sym agrees.number_is in
+      subst (Agrees demand (with_kept a h) t.number (set t.states p (Kept h.row))) same_places
+      (written t agrees p here.1.0.0 here.1.0.1 (with_kept a h) h.row refl refl (λ m ne. others_stay h.table h.row a.number m a.holds ne)
+      (subst (λ m. NoneNamed m (rest t agrees p here.1.0.0 here.1.0.1)) (sym it.number) (alone t agrees p here.1.0.0 here.1.0.1 it.task it.stands)) (Kept h.row) (Some it.task)
+      (it.number, subst (λ m. unspent m h.row (spent h.table h.row a.holds) ≡ false) table (spent_gone h.table h.row a.holds))
+      (subst (λ xs. Reordered (claims_of demand xs) a.rows) (sym (there t agrees p here.1.0.0 here.1.0.1 it.task it.stands)) agrees.rows_are) (with_kept_sound a agrees.sound h))
+
+  -- the hold of a row that is held here is spent, and the row goes out
+  pub row_released : (u : Table K) (h : Hold) (p : ℕ) → HeldHere t h p → PutAt t u p Free None → AgreesWith demand (with_released a h) u
+  row_released u h p here put =
+      let it = held_at t agrees h.row p here.1 in
+      put_agrees put
+      (row_out t agrees p here.1.0.0 here.1.0.1 it.task it.stands h.row it.number (spent h.table h.row a.holds) (λ m ne. others_stay h.table h.row a.number m a.holds ne)
+      (released_sound a agrees.sound h.table h.row (is_unspent t agrees h p here)))
+
+  -- a kept row goes out
+  pub row_withdrawn : (u : Table K) (n p : ℕ) → At t (λ s. s ≡ Kept n) p → PutAt t u p Free None → AgreesWith demand (with_withdrawn a n) u
+  row_withdrawn u n p at put =
+      let it = kept_at t agrees n p at in
+      put_agrees put
+      (row_out t agrees p at.0.0 at.0.1 it.task it.stands n it.number a.holds (λ m ne. refl)
+      (with_withdrawn_sound a agrees.sound n (is_kept t agrees n p at)))

@@ -1,5 +1,5 @@
 -- How a hold is refused or accepted. Assumes nothing.
-use Rattle.std.proofs.Common.{◌≡◌, ℕ, ◌<◌, ◌≤◌, Bool, true, false, cond, leb, List, [], ◌∷◌, ◌++◌, length, take, Some, Err, Option, sym, refl, ap, ◌∙◌, subst, arith, ne_eqb}
+use Rattle.std.proofs.Common.{◌≡◌, ℕ, ◌<◌, ◌≤◌, Bool, true, false, cond, leb, List, [], ◌∷◌, ◌++◌, length, take, is_some, not, None, Some, Err, Option, sym, refl, ap, ◌∙◌, subst, arith, ne_eqb}
 use Rattle.demand.specs.Demand.{Demand}
 use Rattle.analysis.specs.declared.Task.{Task}
 use Rattle.analysis.specs.declared.judgement.JudgeRefusal.{JudgeRefusal}
@@ -11,8 +11,11 @@ use Rattle.analysis.specs.Ranks.{Claim, ranked, loads}
 use Rattle.table.specs.declared.HoldRefusal.{HoldRefusal}
 use Rattle.table.specs.declared.HoldRefusal.TheVariants.{NoPlace, Late}
 use Rattle.table.specs.Account.{Account, row_checks, hold_checks, hold_number, Refused, as_refusal}
-use Rattle.table.specs.Agreement.{Agrees}
-use Rattle.table.specs.declared.State.{State}
+use Rattle.table.specs.Agreement.{AgreesWith}
+use Rattle.table.specs.declared.State.TheVariants.{Free}
+use Rattle.table.specs.declared.Table.{Table}
+use Rattle.table.specs.Places.{PlaceWhere}
+use Rattle.table.proofs.Lookups.{place_free}
 use Rattle.table.proofs.Judgements.{newcomer_late, never_too_many}
 use Rattle.table.proofs.Shared.{Numbered, not_taken, at_least_five}
 
@@ -64,17 +67,23 @@ module _ (a : Account) (c : Claim) where
       first_behind 5 9 (row_checks a c) ((leb a.room (length a.rows), 10) ∷ []) (omega arith) (row_numbered a c) z
       ∙ ap (λ (x : Bool). cond x 10 0) e
 
-  pub no_place : first (row_checks a c) ≡ 0 → leb a.room (length a.rows) ≡ true → Refused a c NoPlace
-  no_place z e = record { by_number = behind z true e; late = λ q. absurd (omega arith) }
-
-  pub passes : first (row_checks a c) ≡ 0 → leb a.room (length a.rows) ≡ false → first (hold_checks a c) ≡ 0
-  passes z e = behind z false e
-
   pub refused_late : (n : ℕ) → first (hold_checks a c) ≡ 0 → LateRow (loads (ranked (c ∷ a.rows))) n → Refused a c (Late n)
   refused_late n z l = record { by_number = z; late = λ q. l }
 
+module _ {K : Type 0} {demand : K → Demand} {a : Account} (t : Table K) (agrees : AgreesWith demand a t) (c : Claim) (early : 0 ≡ first (row_checks a c)) (r : Option ℕ) (place : PlaceWhere t (λ s. s ≡ Free) r) where
+  -- a row whose numbers pass is refused where no place is free
+  pub no_place : r ≡ None → Refused a c NoPlace
+  no_place none = record {
+    by_number = behind a c (sym early) true (place_free t agrees r place ∙ ap (λ o. not (is_some o)) none);
+    late = λ q. absurd (omega arith);
+  }
+
+  -- and passes all checks where one is free
+  pub passes : (p : ℕ) → r ≡ Some p → first (hold_checks a c) ≡ 0
+  passes p some = behind a c (sym early) false (place_free t agrees r place ∙ ap (λ o. not (is_some o)) some)
+
 -- a newcomer that is judged to be late
-pub refused_judged : {K : Type 0} (demand : K → Demand) (a : Account) (number : ℕ) (states : List State) (places : List (Option (Task K))) → Agrees demand a number states places → (t : Task K) → first (hold_checks a (record { row = t.row; demand = demand t.kind })) ≡ 0 → (j : JudgeRefusal) → Judged (claims demand (take 12 places) (Some t)) (Err j) → Refused a (record { row = t.row; demand = demand t.kind }) (as_refusal j)
-refused_judged demand a number states places agrees t z TooMany judged = absurd (never_too_many demand a number states places agrees t z judged)
-refused_judged demand a number states places agrees t z (JudgedLate n) judged =
-    refused_late a (record { row = t.row; demand = demand t.kind }) n z (newcomer_late demand a number states places agrees t z n judged)
+pub refused_judged : {K : Type 0} {demand : K → Demand} {a : Account} (t : Table K) → AgreesWith demand a t → (u : Task K) → first (hold_checks a (record { row = u.row; demand = demand u.kind })) ≡ 0 → (j : JudgeRefusal) → Judged (claims demand (take 12 t.places.now) (Some u)) (Err j) → Refused a (record { row = u.row; demand = demand u.kind }) (as_refusal j)
+refused_judged t agrees u z TooMany judged = absurd (never_too_many t agrees u z judged)
+refused_judged {demand = demand} {a = a} t agrees u z (JudgedLate n) judged =
+    refused_late a (record { row = u.row; demand = demand u.kind }) n z (newcomer_late t agrees u z n judged)

@@ -1,8 +1,9 @@
 -- What the judgement of the rows at the places says of the account. Assumes nothing.
-use Rattle.std.proofs.Common.{◌≡◌, ℕ, zero, suc, ◌<◌, Bool, true, false, cond, ◌||◌, eqb, ◌≢◌, List, [], ◌∷◌, ◌++◌, length, get_or, take, Some, None, Ok, Err, Option, Result, sym, refl, ap, ◌∙◌, subst, true≢false, arith, length-take, ne_eqb, eqb-true}
-use mathlib.Core.Bool.{false≢true}
-use borrow.Author.Tests.{eqb-false}
+use Rattle.std.proofs.Common.{◌≡◌, ℕ, zero, suc, ◌<◌, Bool, false, ◌||◌, eqb, ◌≢◌, List, [], ◌∷◌, ◌++◌, length, get_or, take, Some, None, Ok, Err, Option, Result, sym, refl, ap, ◌∙◌, subst, inl, inr, arith, length-take, ne_eqb, eqb-true}
+use Rattle.std.specs.Option.{ok_or}
+use Rattle.std.proofs.lemmas.Bool.{cases_Bool, eq-eqb}
 use Rattle.std.proofs.lemmas.List.{append-nil}
+use Rattle.std.proofs.lemmas.Option.{some_pair_parts}
 use Rattle.demand.specs.Demand.{Demand}
 use Rattle.demand.specs.Refusals.{first}
 use Rattle.analysis.specs.declared.Task.{Task}
@@ -11,9 +12,10 @@ use Rattle.analysis.specs.declared.Answer.{Answer}
 use Rattle.analysis.specs.declared.Row.{Row}
 use Rattle.analysis.specs.Plans.{Bounds, NoPlan}
 use Rattle.analysis.specs.Ranks.{Claim, Reordered, next, through, ranked, rows, loads_of, loads, at, system, system_of}
-use Rattle.table.specs.declared.State.{State}
-use Rattle.table.specs.Account.{Account, number_of, has_number, hold_checks, AllInTime, BoundOf}
-use Rattle.table.specs.Agreement.{Agrees}
+use Rattle.table.specs.declared.Table.{Table}
+use Rattle.table.specs.Account.{Account, number_of, has_number, hold_checks, AllInTime, BoundsAnswered}
+use Rattle.table.specs.declared.BoundRefusal.TheVariants.{NoSuchRow}
+use Rattle.table.specs.Agreement.{AgreesWith}
 use Rattle.table.specs.Places.{answer_of}
 use Rattle.analysis.specs.declared.answers.Answers.{Answers}
 use Rattle.analysis.specs.declared.judgement.JudgeRefusal.{JudgeRefusal}
@@ -32,14 +34,6 @@ none_numbered n all (c ∷ cs) h =
     ap (λ (b : Bool). b || has_number n cs) (ne_eqb (number_of c) n (h 0 (omega arith)))
     ∙ none_numbered n all cs (λ k l. h (suc k) (omega arith))
 
-abbrev pair_in : Option (ℕ × ℕ) → ℕ × ℕ
-pair_in None = (0, 0)
-pair_in (Some p) = p
-
-abbrev is_some : Option (ℕ × ℕ) → Bool
-is_some None = false
-is_some (Some p) = true
-
 -- the answer for the number n is one of the answers
 record AnswerAt (n t v : ℕ) (answers : List Answer) : Type 0 where
   rank : ℕ
@@ -49,123 +43,108 @@ record AnswerAt (n t v : ℕ) (answers : List Answer) : Type 0 where
   vector : v ≡ vectors_of answers rank
 
 answer_at : (n t v : ℕ) (answers : List Answer) → answer_of n answers ≡ Some (t, v) → AnswerAt n t v answers
-answer_at n t v [] e = absurd (false≢true (ap is_some e))
-answer_at n t v (x ∷ rest) e = go (eqb x.number n) refl e (answer_at n t v rest)
-  where
-    go : (b : Bool) → eqb x.number n ≡ b → cond b (Some (x.bound, x.vector)) (answer_of n rest) ≡ Some (t, v) → (answer_of n rest ≡ Some (t, v) → AnswerAt n t v rest) → AnswerAt n t v (x ∷ rest)
-    go true h f further =
-        record {
-          rank = 0;
-          within = omega arith;
-          number = eqb-true x.number n h;
-          bound = sym (ap (λ (o : Option (ℕ × ℕ)). (pair_in o).0) f);
-          vector = sym (ap (λ (o : Option (ℕ × ℕ)). (pair_in o).1) f);
-        }
-    go false h f further =
-        let behind = further f in
-        record {
-          rank = suc behind.rank;
-          within = let l = behind.within in omega arith;
-          number = behind.number;
-          bound = behind.bound;
-          vector = behind.vector;
-        }
+answer_at n t v [] e = cc
+answer_at n t v (x ∷ rest) e = elim (cases_Bool (eqb x.number n)) [
+  | inl h ↦
+      let here = some_pair_parts x.bound t x.vector v (rw h at e) in
+      record { rank = 0; within = omega arith; number = eqb-true x.number n h; bound = sym here.0; vector = sym here.1 }
+  | inr h ↦
+      let behind = answer_at n t v rest (rw h at e) in
+      record { rank = suc behind.rank; within = let l = behind.within in omega arith; number = behind.number; bound = behind.bound; vector = behind.vector }
+]
 
 no_answer_at : (n : ℕ) (answers : List Answer) → answer_of n answers ≡ None → (k : ℕ) → k < length answers → (get_or answers k no_answer).number ≢ n
 no_answer_at n [] e k l = omega arith
-no_answer_at n (x ∷ rest) e k l = go (eqb x.number n) refl e (no_answer_at n rest) k l
-  where
-    go : (b : Bool) → eqb x.number n ≡ b → cond b (Some (x.bound, x.vector)) (answer_of n rest) ≡ None → (answer_of n rest ≡ None → (i : ℕ) → i < length rest → (get_or rest i no_answer).number ≢ n) → (i : ℕ) → i < length (x ∷ rest) → (get_or (x ∷ rest) i no_answer).number ≢ n
-    go true h f further i m = absurd (true≢false (ap is_some f))
-    go false h f further zero m = eqb-false x.number n h
-    go false h f further (suc i) m = further f i (omega arith)
+no_answer_at n (x ∷ rest) e zero l = λ q. let here = rw (eq-eqb x.number n q) at e in cc
+no_answer_at n (x ∷ rest) e (suc k) l = elim (cases_Bool (eqb x.number n)) [
+  | inl h ↦ let here = rw h at e in cc
+  | inr h ↦ no_answer_at n rest (rw h at e) k (omega arith)
+]
 
-module _ {K : Type 0} (demand : K → Demand) (a : Account) (number : ℕ) (states : List State) (places : List (Option (Task K))) (agrees : Agrees demand a number states places) where
+module _ {K : Type 0} {demand : K → Demand} {a : Account} (t : Table K) (agrees : AgreesWith demand a t) where
   abbrev pub claim_of_task : Task K → Claim
-  claim_of_task t = record { row = t.row; demand = demand t.kind }
+  claim_of_task u = record { row = u.row; demand = demand u.kind }
 
   -- those at the places are the account's rows
-  same_claims : claims demand (take 12 places) None ≡ claims_of demand (take 12 places)
-  same_claims = claims_append demand (take 12 places) (None ∷ []) ∙ append-nil (claims_of demand (take 12 places))
+  same_claims : claims demand (take 12 t.places.now) None ≡ claims_of demand (take 12 t.places.now)
+  same_claims = claims_append demand (take 12 t.places.now) (None ∷ []) ∙ append-nil (claims_of demand (take 12 t.places.now))
 
-  rows_reordered : Reordered a.rows (claims demand (take 12 places) None)
+  rows_reordered : Reordered a.rows (claims demand (take 12 t.places.now) None)
   rows_reordered = subst (Reordered a.rows) (sym same_claims) (reordered_back agrees.rows_are)
 
-  same_ranked : ranked (claims demand (take 12 places) None) ≡ ranked a.rows
-  same_ranked = any_order a.rows (claims demand (take 12 places) None) rows_reordered agrees.sound.priorities
+  same_ranked : ranked (claims demand (take 12 t.places.now) None) ≡ ranked a.rows
+  same_ranked = any_order a.rows (claims demand (take 12 t.places.now) None) rows_reordered agrees.sound.priorities
 
-  newcomer_reordered : (t : Task K) → Reordered (claim_of_task t ∷ a.rows) (claims demand (take 12 places) (Some t))
-  newcomer_reordered t =
-      let front : Reordered (claims_of demand (take 12 places) ++ claim_of_task t ∷ []) (claim_of_task t ∷ claims_of demand (take 12 places)) = subst (λ (xs : List Claim). Reordered (claims_of demand (take 12 places) ++ claim_of_task t ∷ []) (claim_of_task t ∷ xs)) (append-nil (claims_of demand (take 12 places))) (to_front (claims_of demand (take 12 places)) (claim_of_task t) []) in
-      subst (Reordered (claim_of_task t ∷ a.rows)) (sym (claims_append demand (take 12 places) (Some t ∷ [])))
+  newcomer_reordered : (u : Task K) → Reordered (claim_of_task u ∷ a.rows) (claims demand (take 12 t.places.now) (Some u))
+  newcomer_reordered u =
+      let front : Reordered (claims_of demand (take 12 t.places.now) ++ claim_of_task u ∷ []) (claim_of_task u ∷ claims_of demand (take 12 t.places.now)) = subst (λ (xs : List Claim). Reordered (claims_of demand (take 12 t.places.now) ++ claim_of_task u ∷ []) (claim_of_task u ∷ xs)) (append-nil (claims_of demand (take 12 t.places.now))) (to_front (claims_of demand (take 12 t.places.now)) (claim_of_task u) []) in
+      subst (Reordered (claim_of_task u ∷ a.rows)) (sym (claims_append demand (take 12 t.places.now) (Some u ∷ [])))
       (reordered_back (through front (next agrees.rows_are)))
 
-  newcomer_ranked : (t : Task K) → first (hold_checks a (claim_of_task t)) ≡ 0 → ranked (claims demand (take 12 places) (Some t)) ≡ ranked (claim_of_task t ∷ a.rows)
-  newcomer_ranked t passes =
-      any_order (claim_of_task t ∷ a.rows) (claims demand (take 12 places) (Some t)) (newcomer_reordered t)
-      ((passed a (claim_of_task t) passes).priority, agrees.sound.priorities)
+  newcomer_ranked : (u : Task K) → first (hold_checks a (claim_of_task u)) ≡ 0 → ranked (claims demand (take 12 t.places.now) (Some u)) ≡ ranked (claim_of_task u ∷ a.rows)
+  newcomer_ranked u passes =
+      any_order (claim_of_task u ∷ a.rows) (claims demand (take 12 t.places.now) (Some u)) (newcomer_reordered u)
+      ((passed a (claim_of_task u) passes).priority, agrees.sound.priorities)
 
   -- a newcomer that passes the checks is late or in time with the account's rows as with the table's
-  pub newcomer_late : (t : Task K) → first (hold_checks a (claim_of_task t)) ≡ 0 → (n : ℕ) → Judged (claims demand (take 12 places) (Some t)) (Err (Late n)) → LateRow (loads (ranked (claim_of_task t ∷ a.rows))) n
-  newcomer_late t passes n judged = subst (λ (cs : List Claim). LateRow (loads cs) n) (newcomer_ranked t passes) judged.first
+  pub newcomer_late : (u : Task K) → first (hold_checks a (claim_of_task u)) ≡ 0 → (n : ℕ) → Judged (claims demand (take 12 t.places.now) (Some u)) (Err (Late n)) → LateRow (loads (ranked (claim_of_task u ∷ a.rows))) n
+  newcomer_late u passes n judged = subst (λ (cs : List Claim). LateRow (loads cs) n) (newcomer_ranked u passes) judged.first
 
-  pub newcomer_in_time : (t : Task K) → first (hold_checks a (claim_of_task t)) ≡ 0 → (answers : Answers) → Judged (claims demand (take 12 places) (Some t)) (Ok answers) → AllInTime (claim_of_task t ∷ a.rows)
-  newcomer_in_time t passes answers judged =
-      let count : length (loads (ranked (claims demand (take 12 places) (Some t)))) ≡ length (claim_of_task t ∷ a.rows) = length_ranks (claims demand (take 12 places) (Some t)) ∙ sym (length_reordered (newcomer_reordered t)) in
+  pub newcomer_in_time : (u : Task K) → first (hold_checks a (claim_of_task u)) ≡ 0 → (answers : Answers) → Judged (claims demand (take 12 t.places.now) (Some u)) (Ok answers) → AllInTime (claim_of_task u ∷ a.rows)
+  newcomer_in_time u passes answers judged =
+      let count : length (loads (ranked (claims demand (take 12 t.places.now) (Some u)))) ≡ length (claim_of_task u ∷ a.rows) = length_ranks (claims demand (take 12 t.places.now) (Some u)) ∙ sym (length_reordered (newcomer_reordered u)) in
       record {
         R = bounds_of (answers_of answers);
         V = vectors_of (answers_of answers);
-        bounds = subst (λ (n : ℕ). Bounds (system_of (claim_of_task t ∷ a.rows)) n (bounds_of (answers_of answers)) (vectors_of (answers_of answers))) count
-            (subst (λ (cs : List Claim). Bounds (system (loads cs)) (length (loads (ranked (claims demand (take 12 places) (Some t))))) (bounds_of (answers_of answers)) (vectors_of (answers_of answers))) (newcomer_ranked t passes) judged.answered.bounds);
+        bounds = subst (λ (n : ℕ). Bounds (system_of (claim_of_task u ∷ a.rows)) n (bounds_of (answers_of answers)) (vectors_of (answers_of answers))) count
+            (subst (λ (cs : List Claim). Bounds (system (loads cs)) (length (loads (ranked (claims demand (take 12 t.places.now) (Some u))))) (bounds_of (answers_of answers)) (vectors_of (answers_of answers))) (newcomer_ranked u passes) judged.answered.bounds);
       }
 
   -- twelve rows at most
-  pub never_too_many : (t : Task K) → first (hold_checks a (claim_of_task t)) ≡ 0 → Judged (claims demand (take 12 places) (Some t)) (Err TooMany) → ⊥
-  never_too_many t passes judged =
-      let room = (passed a (claim_of_task t) passes).room in
+  pub never_too_many : (u : Task K) → first (hold_checks a (claim_of_task u)) ≡ 0 → Judged (claims demand (take 12 t.places.now) (Some u)) (Err TooMany) → ⊥
+  never_too_many u passes judged =
+      let room = (passed a (claim_of_task u) passes).room in
       let few = agrees.room_is in
-      let count = length_reordered (newcomer_reordered t) in
+      let count = length_reordered (newcomer_reordered u) in
       omega arith
 
   -- the account's rows are in time, so they are never refused
-  pub never_refused : (e : JudgeRefusal) → Judged (claims demand (take 12 places) None) (Err e) → ⊥
+  pub never_refused : (e : JudgeRefusal) → Judged (claims demand (take 12 t.places.now) None) (Err e) → ⊥
   never_refused TooMany judged =
       let count = length_reordered rows_reordered in
-      let few = claims_at_most demand (take 12 places) in
+      let few = claims_at_most demand (take 12 t.places.now) in
       let all = length_reordered agrees.rows_are in
-      let twelve = length-take 12 places in
+      let twelve = length-take 12 t.places.now in
       omega arith
   never_refused (Late n) judged =
       has_plan a.rows agrees.sound.lawful agrees.sound.in_time
       (subst (λ (cs : List Claim). NoPlan (system (loads cs))) same_ranked judged.no_plan)
 
-  pub bound_found : (answers : Answers) → Judged (claims demand (take 12 places) None) (Ok answers) → (n t v : ℕ) → answer_of n (answers_of answers) ≡ Some (t, v) → BoundOf a.rows n t v
-  bound_found answers judged n t v found =
-      let there = answer_at n t v (answers_of answers) found in
-      let ranks = subst (λ (cs : List Claim). Answered (loads cs) (answers_of answers)) same_ranked judged.answered in
+  -- all rows are answered
+  pub all_listed : (r : Result Answers JudgeRefusal) → Judged (claims demand (take 12 t.places.now) None) r → (all : Answers) × (r ≡ Ok all) × Answered (loads (ranked a.rows)) (answers_of all)
+  all_listed (Ok all) judged = (all, refl, subst (λ (cs : List Claim). Answered (loads cs) (answers_of all)) same_ranked judged.answered)
+  all_listed (Err e) judged = absurd (never_refused e judged)
+
+-- what is found among the answers for all rows is what the account answers
+module _ (a : Account) (answers : List Answer) (ranks : Answered (loads (ranked a.rows)) answers) (n : ℕ) where
+  pub bound_found : (r : Option (ℕ × ℕ)) → r ≡ answer_of n answers → BoundsAnswered a n (ok_or r NoSuchRow)
+  bound_found (Some p) found =
+      let there = answer_at n p.0 p.1 answers (sym found) in
       let count : length (loads (ranked a.rows)) ≡ length a.rows = length_ranks a.rows in
       let inside : there.rank < length (loads (ranked a.rows)) = let l = there.within in let e = ranks.count in omega arith in
       record {
         rank = there.rank;
         within = omega arith;
         number = sym (ranks.rows there.rank inside).number ∙ there.number;
-        R = bounds_of (answers_of answers);
-        V = vectors_of (answers_of answers);
-        bounds = subst (λ (m : ℕ). Bounds (system_of a.rows) m (bounds_of (answers_of answers)) (vectors_of (answers_of answers))) count ranks.bounds;
+        R = bounds_of answers;
+        V = vectors_of answers;
+        bounds = subst (λ (m : ℕ). Bounds (system_of a.rows) m (bounds_of answers) (vectors_of answers)) count ranks.bounds;
         bound = there.bound;
         vector = there.vector;
       }
-
-  pub no_bound_found : (answers : Answers) → Judged (claims demand (take 12 places) None) (Ok answers) → (n : ℕ) → answer_of n (answers_of answers) ≡ None → has_number n a.rows ≡ false
-  no_bound_found answers judged n found =
-      let ranks = subst (λ (cs : List Claim). Answered (loads cs) (answers_of answers)) same_ranked judged.answered in
+  bound_found None found =
       let count : length (loads (ranked a.rows)) ≡ length a.rows = length_ranks a.rows in
       let ranked_count = length_ranked a.rows in
       let many = ranks.count in
       number_reordered n (highest_first a.rows).reordered
-      ∙ none_numbered n (rows (ranked a.rows)) (ranked a.rows) (λ k l e. no_answer_at n (answers_of answers) found k (omega arith) ((ranks.rows k (omega arith)).number ∙ e))
-
-  -- all rows are answered
-  pub all_listed : (r : Result Answers JudgeRefusal) → Judged (claims demand (take 12 places) None) r → (all : Answers) × (r ≡ Ok all) × Answered (loads (ranked a.rows)) (answers_of all)
-  all_listed (Ok all) judged = (all, refl, subst (λ (cs : List Claim). Answered (loads cs) (answers_of all)) same_ranked judged.answered)
-  all_listed (Err e) judged = absurd (never_refused e judged)
+      ∙ none_numbered n (rows (ranked a.rows)) (ranked a.rows) (λ k l e. no_answer_at n answers (sym found) k (omega arith) ((ranks.rows k (omega arith)).number ∙ e))

@@ -1,5 +1,5 @@
 -- Every call keeps the account sound. Assumes nothing.
-use Rattle.std.proofs.Common.{◌≡◌, ℕ, true, false, eqb, List, ◌∷◌, Ok, Err, sym, refl, subst, not-suc-le-zero}
+use Rattle.std.proofs.Common.{◌≡◌, ℕ, true, false, eqb, List, ◌∷◌, Ok, Err, refl, not-suc-le-zero}
 use Rattle.std.proofs.lemmas.Bool.{or_left, eq-eqb}
 use Rattle.demand.specs.Demand.{Lawful}
 use Rattle.demand.specs.Refusals.{first}
@@ -8,8 +8,8 @@ use Rattle.analysis.proofs.Removal.{removal_keeps_in_time}
 use Rattle.table.specs.declared.Hold.{Hold}
 use Rattle.table.specs.declared.SpendRefusal.TheVariants.{NotHeld}
 use Rattle.table.specs.declared.WithdrawRefusal.TheVariants.{NoSuchRow, NotKept}
-use Rattle.table.specs.Account.{Account, AllInTime, fresh, number_of, has_number, hold_checks, unspent, held, spent, without, with_row, with_kept, with_withdrawn}
-use Rattle.table.specs.Agreement.{Sound}
+use Rattle.table.specs.Account.{Account, Bears, AllInTime, fresh, number_of, has_number, hold_checks, unspent, held, spent, without, with_row, with_kept, with_withdrawn}
+use Rattle.table.specs.Agreement.{Sound, OwnHolds}
 use Rattle.table.specs.Runs.{Event, holding, keeping, releasing, withdrawing, bounding, Step, Run, begin, more}
 use Rattle.table.proofs.Shared.{passed, ranked_lawful}
 use Rattle.table.proofs.Parts.{without_some, numbers_kept, priorities_kept, lawful_kept, own_more, own_spent, own_without, own_released, unspent_own}
@@ -53,38 +53,36 @@ with_kept_sound a s h =
       holds = own_spent a.number a.rows h.table h.row a.holds s.holds;
     }
 
+-- the row of the number n goes out, and these holds are left
+out_sound : (a : Account) → Sound a → (n : ℕ) (hs : List Bears) → OwnHolds a.number (without n a.rows) hs → Sound (record { number = a.number; room = a.room; rows = without n a.rows; holds = hs })
+out_sound a s n hs own =
+    record {
+      numbers = numbers_kept (without_some n a.rows) s.numbers;
+      priorities = priorities_kept (without_some n a.rows) s.priorities;
+      lawful = lawful_kept (without_some n a.rows) s.lawful;
+      in_time = still_in_time n a s;
+      holds = own;
+    }
+
 -- the hold of these two numbers is spent, and its row goes out
 pub released_sound : (a : Account) → Sound a → (t n : ℕ) → unspent t n a.holds ≡ true → Sound (record { number = a.number; room = a.room; rows = without n a.rows; holds = spent t n a.holds })
 released_sound a s t n e =
-    record {
-      numbers = numbers_kept (without_some n a.rows) s.numbers;
-      priorities = priorities_kept (without_some n a.rows) s.priorities;
-      lawful = lawful_kept (without_some n a.rows) s.lawful;
-      in_time = still_in_time n a s;
-      holds = own_released a.number a.rows t n (unspent_own a.number a.rows t n a.holds s.holds e) a.holds s.holds;
-    }
+    out_sound a s n (spent t n a.holds) (own_released a.number a.rows t n (unspent_own a.number a.rows t n a.holds s.holds e) a.holds s.holds)
 
 pub with_withdrawn_sound : (a : Account) → Sound a → (n : ℕ) → held n a.holds ≡ false → Sound (with_withdrawn a n)
-with_withdrawn_sound a s n e =
-    record {
-      numbers = numbers_kept (without_some n a.rows) s.numbers;
-      priorities = priorities_kept (without_some n a.rows) s.priorities;
-      lawful = lawful_kept (without_some n a.rows) s.lawful;
-      in_time = still_in_time n a s;
-      holds = own_without a.number a.rows n a.holds e s.holds;
-    }
+with_withdrawn_sound a s n e = out_sound a s n a.holds (own_without a.number a.rows n a.holds e s.holds)
 
 sound_step : (a b : Account) (e : Event) → Sound a → Step a e b → Sound b
-sound_step a b (holding c (Ok h)) s step = subst Sound (sym step.1.1) (with_row_sound a s c step.0 step.1.0.passes step.1.0.in_time)
-sound_step a b (holding c (Err e)) s step = subst Sound (sym step.1.1) s
-sound_step a b (keeping h (Ok u)) s step = subst Sound (sym step.1) (with_kept_sound a s h)
-sound_step a b (keeping h (Err (NotHeld back))) s step = subst Sound (sym step.2) s
-sound_step a b (releasing h (Ok u)) s step = subst Sound (sym step.1) (released_sound a s h.table h.row step.0)
-sound_step a b (releasing h (Err (NotHeld back))) s step = subst Sound (sym step.2) s
-sound_step a b (withdrawing n (Ok u)) s step = subst Sound (sym step.2) (with_withdrawn_sound a s n step.1)
-sound_step a b (withdrawing n (Err NoSuchRow)) s step = subst Sound (sym step.1) s
-sound_step a b (withdrawing n (Err NotKept)) s step = subst Sound (sym step.2) s
-sound_step a b (bounding n r) s step = subst Sound (sym step.1) s
+sound_step a b (holding c (Ok h)) s step = rw step.1.1 (with_row_sound a s c step.0 step.1.0.passes step.1.0.in_time)
+sound_step a b (holding c (Err e)) s step = rw step.1.1 s
+sound_step a b (keeping h (Ok u)) s step = rw step.1 (with_kept_sound a s h)
+sound_step a b (keeping h (Err (NotHeld back))) s step = rw step.2 s
+sound_step a b (releasing h (Ok u)) s step = rw step.1 (released_sound a s h.table h.row step.0)
+sound_step a b (releasing h (Err (NotHeld back))) s step = rw step.2 s
+sound_step a b (withdrawing n (Ok u)) s step = rw step.2 (with_withdrawn_sound a s n step.1)
+sound_step a b (withdrawing n (Err NoSuchRow)) s step = rw step.1 s
+sound_step a b (withdrawing n (Err NotKept)) s step = rw step.2 s
+sound_step a b (bounding n r) s step = rw step.1 s
 
 pub sound : (number room : ℕ) {es : List Event} {a : Account} → Run (fresh number room) es a → Sound a
 sound number room begin = fresh_sound number room

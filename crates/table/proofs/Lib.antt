@@ -1,5 +1,4 @@
 pub mod Shared
-pub mod Found
 pub mod Lookups
 pub mod Changes
 pub mod Spending
@@ -9,9 +8,8 @@ pub mod Kept
 pub mod Unique
 pub mod Members
 pub mod Promise
-pub mod Beyond
-pub mod Refusals
 pub mod Holding
 pub mod Worked
 pub mod AfterRun
 pub mod Given
+pub mod Emptying

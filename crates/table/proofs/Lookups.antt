@@ -1,115 +1,143 @@
 -- What a look into the table says of the account. Assumes nothing.
-use Rattle.std.proofs.Common.{◌≡◌, ℕ, zero, suc, ◌<◌, ◌≤◌, true, false, not, eqb, leb, ◌≢◌, List, [], ◌∷◌, length, get_or, take, is_some, Some, None, Option, sym, refl, ap, ◌∙◌, true≢false, arith, eq-eqb, ne_eqb, eqb-true, le-leb, MatchOption}
-use mathlib.Core.Bool.{false≢true}
-use native.Mathlib.Decide.{dec_lt}
-use borrow.Author.Tests.{lt-leb}
-use Rattle.std.proofs.lemmas.List.{length-take, get_or_past}
-use Rattle.std.proofs.lemmas.Bool.{or_left, or_right, or_from}
+use Rattle.std.proofs.Common.{◌≡◌, ℕ, suc, ◌+◌, ◌<◌, ◌≤◌, Bool, true, false, cond, not, ◌||◌, eqb, leb, ltb, List, [], ◌∷◌, length, get_or, take, is_some, Some, None, Option, sym, refl, ap, ◌∙◌, subst, arith, lt-ltb}
+use Rattle.std.specs.List.{filter, flat_map, find, list_any}
+use denote.Ref.{Bor}
+use Rattle.std.specs.declared.option.Iter.{OptionIter}
+use Rattle.std.specs.Iterator.Adapters.{option_iter_done, option_iter_item, option_iter_steps}
+use Rattle.std.proofs.lemmas.Iterator.{YieldsList}
+use Rattle.std.proofs.lemmas.Iterator.Consumers.{YieldsList-from_shown}
+use Rattle.std.specs.Option.{is_none, option_map, option_to_list}
+use Rattle.std.proofs.lemmas.List.{length-take}
+use Rattle.std.proofs.lemmas.List.Recursion.{or_is, same_from_clauses}
+use Rattle.std.proofs.lemmas.Bool.{false_from_ne_true}
+use Rattle.std.proofs.lemmas.Bool.Decides.{nat_tests}
 use Rattle.demand.specs.Demand.{Demand}
+use Rattle.analysis.specs.declared.Answer.{Answer}
 use Rattle.analysis.specs.declared.Task.{Task}
 use Rattle.analysis.specs.Candidates.{claims_of}
 use Rattle.table.specs.declared.State.{State}
 use Rattle.table.specs.declared.State.TheVariants.{Free, Held, Kept}
-use Rattle.table.specs.Account.{Account, has_number, has_priority}
-use Rattle.table.specs.Agreement.{Agrees, StandsAt}
-use Rattle.table.specs.Places.{names, is_free}
-use Rattle.table.proofs.Shared.{number_reordered, priority_reordered, none_some, free_none}
-pub use Rattle.table.proofs.Shared.{length_reordered}
+use Rattle.table.specs.declared.Table.{Table}
+use Rattle.table.specs.Account.{Account, any_above, has_number, has_priority}
+use Rattle.table.specs.Agreement.{AgreesWith, StandsAt}
+use Rattle.table.specs.Places.{names, answer_of, PlaceWhere}
+use Rattle.table.proofs.Shared.{length_reordered, number_reordered, priority_reordered}
+
+-- what `any` and `find` answer, in the words of the definitions
+pub any_above_is : (own : ℕ) (ns : List ℕ) → list_any (ltb own) ns ≡ any_above own ns
+any_above_is own = same_from_clauses (list_any (ltb own)) (any_above own) (λ n b. ltb own n || b) refl (λ _ _. refl) (λ _ _. refl)
+
+pub answer_is : (n : ℕ) (answers : List Answer) → option_map (λ (a : Answer). (a.bound, a.vector)) (find (λ (a : Answer). eqb a.number n) answers) ≡ answer_of n answers
+answer_is n [] = refl
+answer_is n (a ∷ rest) = grind (arith, answer_is n rest)
+
+-- the task at a place has the number n
+abbrev pub named : {K : Type 0} → ℕ → Option (Task K) → Bool
+named n None = false
+named n (Some u) = eqb u.row.number n
+
+names_task : {K : Type 0} (a : Account) (n : ℕ) (s : State) (o : Option (Task K)) → StandsAt a s o → names s n ≡ named n o
+names_task a n Free None h = refl
+names_task a n Free (Some u) h = absurd h
+names_task a n (Held m) None h = absurd h
+names_task a n (Held m) (Some u) h = ap (λ x. eqb x n) h.0
+names_task a n (Kept m) None h = absurd h
+names_task a n (Kept m) (Some u) h = ap (λ x. eqb x n) h.0
+
+not_below : (m n : ℕ) → leb n m ≡ not (ltb m n)
+not_below m n = grind (arith, nat_tests)
+
+ltb_suc : (m n : ℕ) → ltb (suc m) (suc n) ≡ ltb m n
+ltb_suc m n = grind (arith, nat_tests)
 
 module _ {K : Type 0} (demand : K → Demand) where
-  -- a task with the number stands at place i
-  named_at : (n : ℕ) (os : List (Option (Task K))) (i : ℕ) (t : Task K) → get_or os i None ≡ Some t → t.row.number ≡ n → has_number n (claims_of demand os) ≡ true
-  named_at n [] i t e h = absurd (none_some t e)
-  named_at n (None ∷ os) zero t e h = absurd (none_some t e)
-  named_at n (None ∷ os) (suc i) t e h = named_at n os i t e h
-  named_at n (Some u ∷ os) zero t e h =
-      let same_task : u ≡ t = cc in
-      or_left (eqb u.row.number n) (has_number n (claims_of demand os)) (eq-eqb u.row.number n (ap (λ (x : Task K). x.row.number) same_task ∙ h))
-  named_at n (Some u ∷ os) (suc i) t e h = or_right (eqb u.row.number n) (has_number n (claims_of demand os)) (named_at n os i t e h)
+  -- the tasks of the places are those of the rows
+  pub priority_is : (p : ℕ) (os : List (Option (Task K))) → list_any (λ (t : Task K). eqb t.row.priority p) (flat_map option_to_list os) ≡ has_priority p (claims_of demand os)
+  priority_is p [] = refl
+  priority_is p (None ∷ os) = priority_is p os
+  priority_is p (Some t ∷ os) = ap (λ b. eqb t.row.priority p || b) (priority_is p os)
 
-  -- no task with the number stands anywhere
-  named_nowhere : (n : ℕ) (os : List (Option (Task K))) → ((i : ℕ) (t : Task K) → get_or os i None ≡ Some t → t.row.number ≢ n) → has_number n (claims_of demand os) ≡ false
-  named_nowhere n [] h = refl
-  named_nowhere n (None ∷ os) h = named_nowhere n os (λ i. h (suc i))
-  named_nowhere n (Some u ∷ os) h =
-      or_from (eqb u.row.number n) (has_number n (claims_of demand os)) (ne_eqb u.row.number n (h 0 u refl)) (named_nowhere n os (λ i. h (suc i)))
+  -- where the rows have the number n, a task has it
+  pub named_more : (n : ℕ) (o : Option (Task K)) (os : List (Option (Task K))) → has_number n (claims_of demand (o ∷ os)) ≡ (named n o || has_number n (claims_of demand os))
+  named_more n None os = refl
+  named_more n (Some u) os = refl
+
+  -- a place has a row or none
+  pub vacant : (os : List (Option (Task K))) → length (filter is_none os) + length (claims_of demand os) ≡ length os
+  vacant [] = refl
+  vacant (None ∷ os) = omega (arith, vacant os)
+  vacant (Some t ∷ os) = omega (arith, vacant os)
 
   pub claims_at_most : (os : List (Option (Task K))) → length (claims_of demand os) ≤ length os
-  claims_at_most [] = omega arith
-  claims_at_most (None ∷ os) = let rest = claims_at_most os in omega arith
-  claims_at_most (Some u ∷ os) = let rest = claims_at_most os in omega arith
+  claims_at_most os = omega (arith, vacant os)
 
-  -- nothing stands at place i
-  claims_fewer : (os : List (Option (Task K))) (i : ℕ) → i < length os → get_or os i None ≡ None → length (claims_of demand os) < length os
-  claims_fewer [] i l e = omega arith
-  claims_fewer (None ∷ os) i l e = let rest = claims_at_most os in omega arith
-  claims_fewer (Some u ∷ os) zero l e = absurd (none_some u (sym e))
-  claims_fewer (Some u ∷ os) (suc i) l e = let rest = claims_fewer os i (omega arith) e in omega arith
+module _ {K : Type 0} {demand : K → Demand} {a : Account} (t : Table K) (agrees : AgreesWith demand a t) where
+  -- A place of whose state P is true is found exactly where F is true of the tasks: where one of them passes the test p,
+  -- as it does exactly where P is true of the state.
+  found : (P : State → Type 0) (F : List (Option (Task K)) → Bool) (p : Option (Task K) → Bool) → F [] ≡ false → ((o : Option (Task K)) (os : List (Option (Task K))) → F (o ∷ os) ≡ (p o || F os)) → ((s : State) (o : Option (Task K)) → StandsAt a s o → P s → p o ≡ true) → ((s : State) (o : Option (Task K)) → StandsAt a s o → p o ≡ true → P s) → (r : Option ℕ) → PlaceWhere t P r → is_some r ≡ F (take 12 t.places.now)
+  found P F p none step to from r f = or_is F p none step (take 12 t.places.now) None (is_some r) (there r f) (nowhere r f)
+    where
+      there : (r : Option ℕ) → PlaceWhere t P r → is_some r ≡ true → (i : ℕ) × (i < length (take 12 t.places.now)) × (p (get_or (take 12 t.places.now) i None) ≡ true)
+      there None f e = cc
+      there (Some i) f e =
+          (i, let l = length-take 12 t.places.now in omega arith, to (get_or t.states i Free) (get_or (take 12 t.places.now) i None) (agrees.at_each i f.0.0) f.1)
 
-  -- a task stands everywhere
-  claims_full : (os : List (Option (Task K))) → ((i : ℕ) → i < length os → get_or os i None ≢ None) → length os ≤ length (claims_of demand os)
-  claims_full [] h = omega arith
-  claims_full (None ∷ os) h = absurd (h 0 (omega arith) refl)
-  claims_full (Some u ∷ os) h = let rest = claims_full os (λ i l. h (suc i) (omega arith)) in omega arith
-
-module _ {K : Type 0} (demand : K → Demand) (a : Account) (number : ℕ) (states : List State) (places : List (Option (Task K))) (agrees : Agrees demand a number states places) where
-  -- what a place names, its task has as its number
-  names_task : (n : ℕ) (s : State) (o : Option (Task K)) → StandsAt a s o → (t : Task K) → o ≡ Some t → names s n ≡ eqb t.row.number n
-  names_task n Free None stands t e = absurd (none_some t e)
-  names_task n Free (Some u) stands t e = absurd stands
-  names_task n (Held m) None stands t e = absurd stands
-  names_task n (Held m) (Some u) stands t e =
-      let same_task : u ≡ t = cc in
-      ap (λ x. eqb x n) (stands.0 ∙ ap (λ (x : Task K). x.row.number) same_task)
-  names_task n (Kept m) None stands t e = absurd stands
-  names_task n (Kept m) (Some u) stands t e =
-      let same_task : u ≡ t = cc in
-      ap (λ x. eqb x n) (stands.0 ∙ ap (λ (x : Task K). x.row.number) same_task)
-
-  found_at : (n i : ℕ) (s : State) (o : Option (Task K)) → StandsAt a s o → get_or (take 12 places) i None ≡ o → names s n ≡ true → has_number n (claims_of demand (take 12 places)) ≡ true
-  found_at n i Free o stands e h = absurd (false≢true h)
-  found_at n i (Held m) None stands e h = absurd stands
-  found_at n i (Held m) (Some t) stands e h = named_at demand n (take 12 places) i t e (sym stands.0 ∙ eqb-true m n h)
-  found_at n i (Kept m) None stands e h = absurd stands
-  found_at n i (Kept m) (Some t) stands e h = named_at demand n (take 12 places) i t e (sym stands.0 ∙ eqb-true m n h)
-
-  taken_some : (s : State) (o : Option (Task K)) → StandsAt a s o → is_free s ≡ false → o ≢ None
-  taken_some Free o stands h e = absurd (true≢false h)
-  taken_some (Held m) None stands h e = absurd stands
-  taken_some (Held m) (Some t) stands h e = none_some t (sym e)
-  taken_some (Kept m) None stands h e = absurd stands
-  taken_some (Kept m) (Some t) stands h e = none_some t (sym e)
+      nowhere : (r : Option ℕ) → PlaceWhere t P r → is_some r ≡ false → (i : ℕ) → i < length (take 12 t.places.now) → p (get_or (take 12 t.places.now) i None) ≡ false
+      nowhere (Some k) f e i l = cc
+      nowhere None f e i l =
+          let all = length-take 12 t.places.now in
+          let low : i < 12 = omega arith in
+          false_from_ne_true (p (get_or (take 12 t.places.now) i None)) (λ q. f i ((low, omega arith), from (get_or t.states i Free) (get_or (take 12 t.places.now) i None) (agrees.at_each i low) q))
 
   -- a place names the number exactly where the account has such a row
-  pub number_found : (n : ℕ) (r : Option ℕ) → MatchOption r ((i : ℕ) → i < 12 → names (get_or states i Free) n ≡ false) (λ p. (p < 12) × (names (get_or states p Free) n ≡ true)) → is_some r ≡ has_number n a.rows
-  number_found n None found = sym (named_nowhere demand n (take 12 places) nowhere) ∙ number_reordered n agrees.rows_are
-    where
-      nowhere : (i : ℕ) (t : Task K) → get_or (take 12 places) i None ≡ Some t → t.row.number ≢ n
-      nowhere i t e h = elim (dec_lt i 12) [
-        | yes l ↦
-            true≢false (sym (eq-eqb t.row.number n h) ∙ sym (names_task n (get_or states i Free) (get_or (take 12 places) i None) (agrees.at_each i l) t e) ∙ found i l)
-        | no l ↦
-            let len = length-take 12 places in
-            none_some t (sym (get_or_past (take 12 places) i None (omega arith)) ∙ e)
-      ]
-  number_found n (Some p) found =
-      sym (found_at n p (get_or states p Free) (get_or (take 12 places) p None) (agrees.at_each p found.0) refl found.1)
+  pub number_found : (n : ℕ) (r : Option ℕ) → PlaceWhere t (λ s. names s n ≡ true) r → is_some r ≡ has_number n a.rows
+  number_found n r f =
+      found (λ s. names s n ≡ true) (λ os. has_number n (claims_of demand os)) (named n) refl (named_more demand n) (λ s o h e. sym (names_task a n s o h) ∙ e) (λ s o h e. names_task a n s o h ∙ e) r f
       ∙ number_reordered n agrees.rows_are
 
-  pub priority_found : (p : ℕ) → has_priority p (claims_of demand (take 12 places)) ≡ has_priority p a.rows
+  pub priority_found : (p : ℕ) → has_priority p (claims_of demand (take 12 t.places.now)) ≡ has_priority p a.rows
   priority_found p = priority_reordered p agrees.rows_are
 
+  none_stands : (s : State) (o : Option (Task K)) → StandsAt a s o → s ≡ Free → is_none o ≡ true
+  none_stands Free None h e = refl
+  none_stands Free (Some u) h e = absurd h
+  none_stands (Held m) o h e = cc
+  none_stands (Kept m) o h e = cc
+
+  free_there : (s : State) (o : Option (Task K)) → StandsAt a s o → is_none o ≡ true → s ≡ Free
+  free_there Free o h e = refl
+  free_there (Held m) None h e = absurd h
+  free_there (Held m) (Some u) h e = cc
+  free_there (Kept m) None h e = absurd h
+  free_there (Kept m) (Some u) h e = cc
+
   -- a place is free exactly where the account has room
-  pub place_free : (r : Option ℕ) → MatchOption r ((i : ℕ) → i < 12 → i < length places → is_free (get_or states i Free) ≡ false) (λ p. (p < 12) × (p < length places) × (is_free (get_or states p Free) ≡ true)) → leb a.room (length a.rows) ≡ not (is_some r)
-  place_free None found =
-      let len = length-take 12 places in
-      let rows = length_reordered agrees.rows_are in
-      let room = agrees.room_is in
-      let full = claims_full demand (take 12 places) (λ i l. taken_some (get_or states i Free) (get_or (take 12 places) i None) (agrees.at_each i (omega arith)) (found i (omega arith) (omega arith))) in
-      le-leb a.room (length a.rows) (omega arith)
-  place_free (Some p) found =
-      let len = length-take 12 places in
-      let rows = length_reordered agrees.rows_are in
-      let room = agrees.room_is in
-      let fewer = claims_fewer demand (take 12 places) p (omega arith) (free_none a (get_or states p Free) (get_or (take 12 places) p None) (agrees.at_each p found.0) found.2) in
-      lt-leb a.room (length a.rows) (omega arith)
+  pub place_free : (r : Option ℕ) → PlaceWhere t (λ s. s ≡ Free) r → leb a.room (length a.rows) ≡ not (is_some r)
+  place_free r f =
+      let room : length (take 12 t.places.now) ≡ a.room = omega (arith, length-take 12 t.places.now, agrees.room_is) in
+      not_below (length a.rows) a.room
+      ∙ ap not (sym (found (λ s. s ≡ Free) (λ os. ltb (length (claims_of demand os)) (length os)) is_none refl step none_stands free_there r f ∙ rw (room, length_reordered agrees.rows_are)))
+    where
+      step : (o : Option (Task K)) (os : List (Option (Task K))) → ltb (length (claims_of demand (o ∷ os))) (length (o ∷ os)) ≡ (is_none o || ltb (length (claims_of demand os)) (length os))
+      step None os = lt-ltb (length (claims_of demand os)) (length (None ∷ os)) (let l = claims_at_most demand os in omega arith)
+      step (Some u) os = ltb_suc (length (claims_of demand os)) (length os)
+
+  -- as many rows can enter as places are empty
+  pub room_left : length (filter is_none (take 12 t.places.now)) + length a.rows ≡ a.room
+  room_left = omega (arith, vacant demand (take 12 t.places.now), length_reordered agrees.rows_are, length-take 12 t.places.now, agrees.room_is)
+
+-- what a place gives where its tasks are gone through: its task, if it has one
+pub given_at : {A : Type 0} (s : OptionIter A) (o : Option A) → option_iter_item s ≡ o → option_iter_done s ≡ false → YieldsList option_iter_steps (λ x. x.now) s (option_to_list o)
+given_at {A} s o item fresh = subst (YieldsList option_iter_steps (λ x. x.now) s) (ap left_of fresh ∙ ap option_to_list item) (YieldsList-from_shown option_iter_steps (λ x. x.now) left none some s)
+  where
+    left_of : Bool → List A
+    left_of b = cond b [] (option_to_list (option_iter_item s))
+
+    left : OptionIter A → List A
+    left s = cond (option_iter_done s) [] (option_to_list (option_iter_item s))
+
+    none : (s t : OptionIter A) → option_iter_steps s None t → length (left s) ≡ 0
+    none s t h = grind arith
+
+    some : (s : OptionIter A) (x : Bor A) (t : OptionIter A) → option_iter_steps s (Some x) t → left s ≡ x.now ∷ left t
+    some s x t h = grind arith

@@ -1,5 +1,5 @@
 -- The rows and holds of an account are those that the run says. Assumes nothing.
-use Rattle.std.proofs.Common.{◌≡◌, ℕ, List, ◌∷◌, Ok, Err, sym, ap, subst, inl, inr}
+use Rattle.std.proofs.Common.{◌≡◌, ℕ, List, ◌∷◌, Ok, Err, sym, ap, inl, inr}
 use Rattle.analysis.specs.Ranks.{Claim}
 use Rattle.table.specs.declared.SpendRefusal.TheVariants.{NotHeld}
 use Rattle.table.specs.declared.WithdrawRefusal.TheVariants.{NoSuchRow, NotKept}
@@ -43,26 +43,16 @@ module _ (c : Claim) (cs : List Claim) (es : List Event) (before : Standing c cs
       back (inr p) = stays_there c n cs (λ q. p.0 (from (sym q))) (before.1 p.1)
 
 standing_step : (c : Claim) (a b : Account) (es : List Event) (e : Event) → Step a e b → Standing c a.rows es → Standing c b.rows (e ∷ es)
-standing_step c a b es (holding d (Ok h)) step s =
-    subst (λ (x : Account). Standing c x.rows (holding d (Ok h) ∷ es)) (sym step.1.1) (row_in c a.rows es s (holding d (Ok h)) d (λ x. x) (λ x. x) (λ x. x))
-standing_step c a b es (holding d (Err e)) step s =
-    subst (λ (x : Account). Standing c x.rows (holding d (Err e) ∷ es)) (sym step.1.1) (rows_same c a.rows es s (holding d (Err e)) (λ x. x) (λ x. x))
-standing_step c a b es (keeping h (Ok u)) step s =
-    subst (λ (x : Account). Standing c x.rows (keeping h (Ok u) ∷ es)) (sym step.1) (rows_same c a.rows es s (keeping h (Ok u)) (λ x. x) (λ x. x))
-standing_step c a b es (keeping h (Err (NotHeld back))) step s =
-    subst (λ (x : Account). Standing c x.rows (keeping h (Err (NotHeld back)) ∷ es)) (sym step.2) (rows_same c a.rows es s (keeping h (Err (NotHeld back))) (λ x. x) (λ x. x))
-standing_step c a b es (releasing h (Ok u)) step s =
-    subst (λ (x : Account). Standing c x.rows (releasing h (Ok u) ∷ es)) (sym step.1) (row_out c a.rows es s (releasing h (Ok u)) h.row (λ x. x) (λ x. x) (λ x. x))
-standing_step c a b es (releasing h (Err (NotHeld back))) step s =
-    subst (λ (x : Account). Standing c x.rows (releasing h (Err (NotHeld back)) ∷ es)) (sym step.2) (rows_same c a.rows es s (releasing h (Err (NotHeld back))) (λ x. x) (λ x. x))
-standing_step c a b es (withdrawing n (Ok u)) step s =
-    subst (λ (x : Account). Standing c x.rows (withdrawing n (Ok u) ∷ es)) (sym step.2) (row_out c a.rows es s (withdrawing n (Ok u)) n (λ x. x) (λ x. x) (λ x. x))
-standing_step c a b es (withdrawing n (Err NoSuchRow)) step s =
-    subst (λ (x : Account). Standing c x.rows (withdrawing n (Err NoSuchRow) ∷ es)) (sym step.1) (rows_same c a.rows es s (withdrawing n (Err NoSuchRow)) (λ x. x) (λ x. x))
-standing_step c a b es (withdrawing n (Err NotKept)) step s =
-    subst (λ (x : Account). Standing c x.rows (withdrawing n (Err NotKept) ∷ es)) (sym step.2) (rows_same c a.rows es s (withdrawing n (Err NotKept)) (λ x. x) (λ x. x))
-standing_step c a b es (bounding n r) step s =
-    subst (λ (x : Account). Standing c x.rows (bounding n r ∷ es)) (sym step.1) (rows_same c a.rows es s (bounding n r) (λ x. x) (λ x. x))
+standing_step c a b es (holding d (Ok h)) step s = rw step.1.1 (row_in c a.rows es s (holding d (Ok h)) d (λ x. x) (λ x. x) (λ x. x))
+standing_step c a b es (holding d (Err e)) step s = rw step.1.1 (rows_same c a.rows es s (holding d (Err e)) (λ x. x) (λ x. x))
+standing_step c a b es (keeping h (Ok u)) step s = rw step.1 (rows_same c a.rows es s (keeping h (Ok u)) (λ x. x) (λ x. x))
+standing_step c a b es (keeping h (Err (NotHeld back))) step s = rw step.2 (rows_same c a.rows es s (keeping h (Err (NotHeld back))) (λ x. x) (λ x. x))
+standing_step c a b es (releasing h (Ok u)) step s = rw step.1 (row_out c a.rows es s (releasing h (Ok u)) h.row (λ x. x) (λ x. x) (λ x. x))
+standing_step c a b es (releasing h (Err (NotHeld back))) step s = rw step.2 (rows_same c a.rows es s (releasing h (Err (NotHeld back))) (λ x. x) (λ x. x))
+standing_step c a b es (withdrawing n (Ok u)) step s = rw step.2 (row_out c a.rows es s (withdrawing n (Ok u)) n (λ x. x) (λ x. x) (λ x. x))
+standing_step c a b es (withdrawing n (Err NoSuchRow)) step s = rw step.1 (rows_same c a.rows es s (withdrawing n (Err NoSuchRow)) (λ x. x) (λ x. x))
+standing_step c a b es (withdrawing n (Err NotKept)) step s = rw step.2 (rows_same c a.rows es s (withdrawing n (Err NotKept)) (λ x. x) (λ x. x))
+standing_step c a b es (bounding n r) step s = rw step.1 (rows_same c a.rows es s (bounding n r) (λ x. x) (λ x. x))
 
 pub standing : (number room : ℕ) (c : Claim) {es : List Event} {a : Account} → Run (fresh number room) es a → (Among c a.rows → Stands c es) × (Stands c es → Among c a.rows)
 standing number room c begin = (λ x. x, λ x. x)
@@ -105,28 +95,16 @@ module _ (n : ℕ) (a : Account) (es : List Event) (before : HeldNow n a es) (e 
       back (inr p) = stays_unspent it t m a.holds (λ q. p.0 (from (sym q))) (before.1 p.1)
 
 held_step : (n : ℕ) (a b : Account) (es : List Event) (e : Event) → Sound a → Step a e b → HeldNow n a es → HeldNow n b (e ∷ es)
-held_step n a b es (holding d (Ok h)) s step p =
-    subst (λ (x : Account). HeldNow n x (holding d (Ok h) ∷ es)) (sym step.1.1) (hold_in n a es p (holding d (Ok h)) (number_of d) (λ x. x) (λ x. x) (λ x. x))
-held_step n a b es (holding d (Err e)) s step p =
-    subst (λ (x : Account). HeldNow n x (holding d (Err e) ∷ es)) (sym step.1.1) (holds_same n a es p (holding d (Err e)) (λ x. x) (λ x. x))
-held_step n a b es (keeping h (Ok u)) s step p =
-    subst (λ (x : Account). HeldNow n x (keeping h (Ok u) ∷ es)) (sym step.1)
-    (hold_out n a es p (keeping h (Ok u)) h.table h.row (sym (unspent_own a.number a.rows h.table h.row a.holds s.holds step.0)) (λ x. x) (λ x. x) (λ x. x))
-held_step n a b es (keeping h (Err (NotHeld back))) s step p =
-    subst (λ (x : Account). HeldNow n x (keeping h (Err (NotHeld back)) ∷ es)) (sym step.2) (holds_same n a es p (keeping h (Err (NotHeld back))) (λ x. x) (λ x. x))
-held_step n a b es (releasing h (Ok u)) s step p =
-    subst (λ (x : Account). HeldNow n x (releasing h (Ok u) ∷ es)) (sym step.1)
-    (hold_out n a es p (releasing h (Ok u)) h.table h.row (sym (unspent_own a.number a.rows h.table h.row a.holds s.holds step.0)) (λ x. x) (λ x. x) (λ x. x))
-held_step n a b es (releasing h (Err (NotHeld back))) s step p =
-    subst (λ (x : Account). HeldNow n x (releasing h (Err (NotHeld back)) ∷ es)) (sym step.2) (holds_same n a es p (releasing h (Err (NotHeld back))) (λ x. x) (λ x. x))
-held_step n a b es (withdrawing m (Ok u)) s step p =
-    subst (λ (x : Account). HeldNow n x (withdrawing m (Ok u) ∷ es)) (sym step.2) (holds_same n a es p (withdrawing m (Ok u)) (λ x. x) (λ x. x))
-held_step n a b es (withdrawing m (Err NoSuchRow)) s step p =
-    subst (λ (x : Account). HeldNow n x (withdrawing m (Err NoSuchRow) ∷ es)) (sym step.1) (holds_same n a es p (withdrawing m (Err NoSuchRow)) (λ x. x) (λ x. x))
-held_step n a b es (withdrawing m (Err NotKept)) s step p =
-    subst (λ (x : Account). HeldNow n x (withdrawing m (Err NotKept) ∷ es)) (sym step.2) (holds_same n a es p (withdrawing m (Err NotKept)) (λ x. x) (λ x. x))
-held_step n a b es (bounding m r) s step p =
-    subst (λ (x : Account). HeldNow n x (bounding m r ∷ es)) (sym step.1) (holds_same n a es p (bounding m r) (λ x. x) (λ x. x))
+held_step n a b es (holding d (Ok h)) s step p = rw step.1.1 (hold_in n a es p (holding d (Ok h)) (number_of d) (λ x. x) (λ x. x) (λ x. x))
+held_step n a b es (holding d (Err e)) s step p = rw step.1.1 (holds_same n a es p (holding d (Err e)) (λ x. x) (λ x. x))
+held_step n a b es (keeping h (Ok u)) s step p = rw step.1 (hold_out n a es p (keeping h (Ok u)) h.table h.row (sym (unspent_own a.number a.rows h.table h.row a.holds s.holds step.0)) (λ x. x) (λ x. x) (λ x. x))
+held_step n a b es (keeping h (Err (NotHeld back))) s step p = rw step.2 (holds_same n a es p (keeping h (Err (NotHeld back))) (λ x. x) (λ x. x))
+held_step n a b es (releasing h (Ok u)) s step p = rw step.1 (hold_out n a es p (releasing h (Ok u)) h.table h.row (sym (unspent_own a.number a.rows h.table h.row a.holds s.holds step.0)) (λ x. x) (λ x. x) (λ x. x))
+held_step n a b es (releasing h (Err (NotHeld back))) s step p = rw step.2 (holds_same n a es p (releasing h (Err (NotHeld back))) (λ x. x) (λ x. x))
+held_step n a b es (withdrawing m (Ok u)) s step p = rw step.2 (holds_same n a es p (withdrawing m (Ok u)) (λ x. x) (λ x. x))
+held_step n a b es (withdrawing m (Err NoSuchRow)) s step p = rw step.1 (holds_same n a es p (withdrawing m (Err NoSuchRow)) (λ x. x) (λ x. x))
+held_step n a b es (withdrawing m (Err NotKept)) s step p = rw step.2 (holds_same n a es p (withdrawing m (Err NotKept)) (λ x. x) (λ x. x))
+held_step n a b es (bounding m r) s step p = rw step.1 (holds_same n a es p (bounding m r) (λ x. x) (λ x. x))
 
 pub held_unspent : (number room n : ℕ) {es : List Event} {a : Account} → Run (fresh number room) es a → (Among (record { table = a.number; row = n }) a.holds → Unspent n es) × (Unspent n es → Among (record { table = a.number; row = n }) a.holds)
 held_unspent number room n begin = (λ x. x, λ x. x)

@@ -1,7 +1,7 @@
 -- Rows and holds that are taken out of a list, by their numbers. Assumes nothing.
-use Rattle.std.proofs.Common.{◌≡◌, ℕ, Bool, true, false, cond, ◌||◌, eqb, ◌≢◌, ◌⊎◌, List, [], ◌∷◌, sym, refl, ap, ◌∙◌, subst, inl, inr}
-use mathlib.Core.Bool.{false≢true}
-use Rattle.std.proofs.lemmas.Bool.{eqb-true, eqb-false, eq-eqb, ne_eqb, and_parts, and_right, and_cases, and_from, or_cases, or_parts, or_right, cond_both}
+use Rattle.std.proofs.Common.{◌≡◌, ℕ, Bool, true, false, cond, ◌||◌, eqb, ◌≢◌, List, [], ◌∷◌, sym, refl, ap, ◌∙◌, subst, inl, inr}
+use Rattle.std.proofs.lemmas.Bool.{eqb-true, eqb-false, eq-eqb, ne_eqb, and_parts, and_right, and_from, or_cases, or_parts, or_right, cond_both, both_ways}
+use Rattle.std.proofs.lemmas.List.Recursion.{same_from_clauses}
 use Rattle.demand.specs.Demand.{Lawful}
 use Rattle.analysis.specs.Ranks.{Claim, NoneAt, DistinctPriorities}
 use Rattle.analysis.specs.Removal.{SomeOf, none, keep, leave}
@@ -13,11 +13,9 @@ use Rattle.table.specs.Runs.{Among}
 -- the rows that are left are some of the rows
 pub without_some : (n : ℕ) (cs : List Claim) → SomeOf ◌≡◌ (without n cs) cs
 without_some n [] = none
-without_some n (c ∷ cs) = go (eqb (number_of c) n) (without_some n cs)
-  where
-    go : (b : Bool) → SomeOf ◌≡◌ (without n cs) cs → SomeOf ◌≡◌ (cond b (without n cs) (c ∷ without n cs)) (c ∷ cs)
-    go true s = leave s
-    go false s = keep refl s
+without_some n (c ∷ cs) =
+    let rest = without_some n cs in
+    cond_both (eqb (number_of c) n) (without n cs) (c ∷ without n cs) (λ xs. SomeOf ◌≡◌ xs (c ∷ cs)) (λ _. leave rest) (λ _. keep refl rest)
 
 none_named_kept : (n : ℕ) {xs ys : List Claim} → SomeOf ◌≡◌ xs ys → NoneNamed n ys → NoneNamed n xs
 none_named_kept n none h = tt
@@ -65,13 +63,11 @@ none_at p (c ∷ cs) e =
 -- the row of another number is still there
 has_still : (m n : ℕ) → m ≢ n → (cs : List Claim) → has_number m (without n cs) ≡ has_number m cs
 has_still m n ne [] = refl
-has_still m n ne (c ∷ cs) = go (eqb (number_of c) n) refl (has_still m n ne cs)
-  where
-    go : (b : Bool) → eqb (number_of c) n ≡ b → has_number m (without n cs) ≡ has_number m cs → has_number m (cond b (without n cs) (c ∷ without n cs)) ≡ eqb (number_of c) m || has_number m cs
-    go true e h =
-        let is : number_of c ≡ n = eqb-true (number_of c) n e in
-        h ∙ ap (λ b. b || has_number m cs) (sym (ne_eqb (number_of c) m (λ k. ne (sym k ∙ is))))
-    go false e h = ap (λ b. eqb (number_of c) m || b) h
+has_still m n ne (c ∷ cs) =
+    let rest = has_still m n ne cs in
+    cond_both (eqb (number_of c) n) (without n cs) (c ∷ without n cs) (λ xs. has_number m xs ≡ eqb (number_of c) m || has_number m cs)
+    (λ e. rest ∙ ap (λ b. b || has_number m cs) (sym (ne_eqb (number_of c) m (λ k. ne (sym k ∙ eqb-true (number_of c) n e)))))
+    (λ _. ap (λ b. eqb (number_of c) m || b) rest)
 
 pub bears_other : (table m n : ℕ) (h : Bears) → h.row ≡ n → m ≢ n → bears table m h ≡ false
 bears_other table m n h e ne = and_right (eqb h.table table) (eqb h.row m) (ne_eqb h.row m (λ k. ne (sym k ∙ e)))
@@ -85,6 +81,10 @@ others_stay table n other m (h ∷ hs) ne =
     (λ e. rest ∙ sym (ap (λ b. b || unspent other m hs) (bears_other other m n h (eqb-true h.row n (and_parts (eqb h.table table) (eqb h.row n) e).1) ne)))
     (λ e. ap (λ b. bears other m h || b) rest)
 
+-- a hold of the table that does not bear both numbers bears another row
+other_row : (t n : ℕ) (h : Bears) → h.table ≡ t → bears t n h ≡ false → h.row ≢ n
+other_row t n h own q e = both_ways (bears t n h) q (and_from (eqb h.table t) (eqb h.row n) (eq-eqb h.table t own) (eq-eqb h.row n e))
+
 module _ (table : ℕ) (cs : List Claim) where
   pub own_more : (c : Claim) (hs : List Bears) → OwnHolds table cs hs → OwnHolds table (c ∷ cs) hs
   own_more c [] o = tt
@@ -93,11 +93,9 @@ module _ (table : ℕ) (cs : List Claim) where
 
   pub own_spent : (t n : ℕ) (hs : List Bears) → OwnHolds table cs hs → OwnHolds table cs (spent t n hs)
   own_spent t n [] o = tt
-  own_spent t n (h ∷ hs) o = go (bears t n h) (own_spent t n hs o.1)
-    where
-      go : (b : Bool) → OwnHolds table cs (spent t n hs) → OwnHolds table cs (cond b (spent t n hs) (h ∷ spent t n hs))
-      go true rest = rest
-      go false rest = (o.0, rest)
+  own_spent t n (h ∷ hs) o =
+      let rest = own_spent t n hs o.1 in
+      cond_both (bears t n h) (spent t n hs) (h ∷ spent t n hs) (OwnHolds table cs) (λ _. rest) (λ _. (o.0, rest))
 
   -- a row goes out that no hold bears
   pub own_without : (n : ℕ) (hs : List Bears) → held n hs ≡ false → OwnHolds table cs hs → OwnHolds table (without n cs) hs
@@ -106,79 +104,69 @@ module _ (table : ℕ) (cs : List Claim) where
       let p = or_parts (eqb h.row n) (held n hs) e in
       ((o.0.0, has_still h.row n (eqb-false h.row n p.0) cs ∙ o.0.1), own_without n hs p.1 o.1)
 
-  other_row : (t n : ℕ) → t ≡ table → (h : Bears) → h.table ≡ table → bears t n h ≡ false → h.row ≢ n
-  other_row t n e h own q = elim (and_cases (eqb h.table t) (eqb h.row n) q) [
-    | inl p ↦ absurd (eqb-false h.table t p (own ∙ sym e))
-    | inr p ↦ eqb-false h.row n p
-  ]
-
   -- a row goes out with its hold
   pub own_released : (t n : ℕ) → t ≡ table → (hs : List Bears) → OwnHolds table cs hs → OwnHolds table (without n cs) (spent t n hs)
   own_released t n e [] o = tt
-  own_released t n e (h ∷ hs) o = go (bears t n h) refl (own_released t n e hs o.1)
-    where
-      go : (b : Bool) → bears t n h ≡ b → OwnHolds table (without n cs) (spent t n hs) → OwnHolds table (without n cs) (cond b (spent t n hs) (h ∷ spent t n hs))
-      go true q rest = rest
-      go false q rest = ((o.0.0, has_still h.row n (other_row t n e h o.0.0 q) cs ∙ o.0.1), rest)
+  own_released t n e (h ∷ hs) o =
+      let rest = own_released t n e hs o.1 in
+      cond_both (bears t n h) (spent t n hs) (h ∷ spent t n hs) (OwnHolds table (without n cs)) (λ _. rest)
+      (λ q. ((o.0.0, has_still h.row n (other_row t n h (o.0.0 ∙ sym e) q) cs ∙ o.0.1), rest))
 
   -- an unspent hold is of this table
   pub unspent_own : (t n : ℕ) (hs : List Bears) → OwnHolds table cs hs → unspent t n hs ≡ true → t ≡ table
-  unspent_own t n [] o e = absurd (false≢true e)
-  unspent_own t n (h ∷ hs) o e = go (or_cases (bears t n h) (unspent t n hs) e) (unspent_own t n hs o.1)
-    where
-      go : (bears t n h ≡ true) ⊎ (unspent t n hs ≡ true) → (unspent t n hs ≡ true → t ≡ table) → t ≡ table
-      go (inl p) rest = sym (eqb-true h.table t (and_parts (eqb h.table t) (eqb h.row n) p).0) ∙ o.0.0
-      go (inr p) rest = rest p
+  unspent_own t n [] o e = cc
+  unspent_own t n (h ∷ hs) o e = elim (or_cases (bears t n h) (unspent t n hs) e) [
+    | inl p ↦ sym (eqb-true h.table t (and_parts (eqb h.table t) (eqb h.row n) p).0) ∙ o.0.0
+    | inr p ↦ unspent_own t n hs o.1 p
+  ]
+
+-- those that do not pass a test
+abbrev left_out : {X : Type 0} → (X → Bool) → List X → List X
+left_out test [] = []
+left_out test (x ∷ xs) = cond (test x) (left_out test xs) (x ∷ left_out test xs)
+
+without_is : (n : ℕ) (cs : List Claim) → without n cs ≡ left_out (λ c. eqb (number_of c) n) cs
+without_is n = same_from_clauses (without n) (left_out (λ c. eqb (number_of c) n)) (λ c xs. cond (eqb (number_of c) n) xs (c ∷ xs)) refl (λ _ _. refl) (λ _ _. refl)
+
+spent_is : (t n : ℕ) (hs : List Bears) → spent t n hs ≡ left_out (bears t n) hs
+spent_is t n = same_from_clauses (spent t n) (left_out (bears t n)) (λ h xs. cond (bears t n h) xs (h ∷ xs)) refl (λ _ _. refl) (λ _ _. refl)
+
+module _ {X : Type 0} (test : X → Bool) (x : X) where
+  was_in : (xs : List X) → Among x (left_out test xs) → Among x xs × (test x ≡ false)
+  was_in [] m = absurd m
+  was_in (y ∷ ys) m =
+      cond_both (test y) (left_out test ys) (y ∷ left_out test ys) (λ zs. Among x zs → Among x (y ∷ ys) × (test x ≡ false)) (λ _ k. let p = was_in ys k in (inr p.0, p.1))
+      (λ q k. elim k [
+        | inl e ↦ (inl e, ap test (sym e) ∙ q)
+        | inr l ↦ let p = was_in ys l in (inr p.0, p.1)
+      ]) m
+
+  stays_in : (xs : List X) → test x ≡ false → Among x xs → Among x (left_out test xs)
+  stays_in [] not m = absurd m
+  stays_in (y ∷ ys) not m = elim m [
+    | inl e ↦ cond_both (test y) (left_out test ys) (y ∷ left_out test ys) (Among x) (λ q. absurd (both_ways (test x) not (ap test (sym e) ∙ q))) (λ _. inl e)
+    | inr k ↦ let rest = stays_in ys not k in cond_both (test y) (left_out test ys) (y ∷ left_out test ys) (Among x) (λ _. rest) (λ _. inr rest)
+  ]
 
 -- a row that is left was there, and has another number
 pub was_there : (c : Claim) (n : ℕ) (cs : List Claim) → Among c (without n cs) → Among c cs × (number_of c ≢ n)
-was_there c n [] m = absurd m
-was_there c n (d ∷ cs) m = go (eqb (number_of d) n) refl m (was_there c n cs)
-  where
-    more : Among c cs × (number_of c ≢ n) → Among c (d ∷ cs) × (number_of c ≢ n)
-    more p = (inr p.0, p.1)
-
-    go : (b : Bool) → eqb (number_of d) n ≡ b → Among c (cond b (without n cs) (d ∷ without n cs)) → (Among c (without n cs) → Among c cs × (number_of c ≢ n)) → Among c (d ∷ cs) × (number_of c ≢ n)
-    go true q x rest = more (rest x)
-    go false q (inl e) rest = (inl e, λ r. eqb-false (number_of d) n q (ap number_of e ∙ r))
-    go false q (inr x) rest = more (rest x)
+was_there c n cs m =
+    let p = was_in (λ c. eqb (number_of c) n) c cs (subst (Among c) (without_is n cs) m) in
+    (p.0, eqb-false (number_of c) n p.1)
 
 pub stays_there : (c : Claim) (n : ℕ) (cs : List Claim) → number_of c ≢ n → Among c cs → Among c (without n cs)
-stays_there c n [] ne m = absurd m
-stays_there c n (d ∷ cs) ne m = go (eqb (number_of d) n) refl m (stays_there c n cs ne)
-  where
-    go : (b : Bool) → eqb (number_of d) n ≡ b → Among c (d ∷ cs) → (Among c cs → Among c (without n cs)) → Among c (cond b (without n cs) (d ∷ without n cs))
-    go true q (inl e) rest = absurd (ne (ap number_of (sym e) ∙ eqb-true (number_of d) n q))
-    go true q (inr x) rest = rest x
-    go false q (inl e) rest = inl e
-    go false q (inr x) rest = inr (rest x)
+stays_there c n cs ne m =
+    subst (Among c) (sym (without_is n cs)) (stays_in (λ c. eqb (number_of c) n) c cs (ne_eqb (number_of c) n ne) m)
 
 -- a hold that is left was unspent, and bears another row
 pub was_unspent : (x : Bears) (t n : ℕ) (hs : List Bears) → x.table ≡ t → Among x (spent t n hs) → Among x hs × (x.row ≢ n)
-was_unspent x t n [] own m = absurd m
-was_unspent x t n (h ∷ hs) own m = go (bears t n h) refl m (was_unspent x t n hs own)
-  where
-    more : Among x hs × (x.row ≢ n) → Among x (h ∷ hs) × (x.row ≢ n)
-    more p = (inr p.0, p.1)
-
-    go : (b : Bool) → bears t n h ≡ b → Among x (cond b (spent t n hs) (h ∷ spent t n hs)) → (Among x (spent t n hs) → Among x hs × (x.row ≢ n)) → Among x (h ∷ hs) × (x.row ≢ n)
-    go true q y rest = more (rest y)
-    go false q (inl e) rest = (
-      inl e,
-      λ r. false≢true (sym q ∙ and_from (eqb h.table t) (eqb h.row n) (eq-eqb h.table t (ap (λ (y : Bears). y.table) e ∙ own)) (eq-eqb h.row n (ap (λ (y : Bears). y.row) e ∙ r))),
-    )
-    go false q (inr y) rest = more (rest y)
+was_unspent x t n hs own m =
+    let p = was_in (bears t n) x hs (subst (Among x) (spent_is t n hs) m) in
+    (p.0, other_row t n x own p.1)
 
 pub stays_unspent : (x : Bears) (t n : ℕ) (hs : List Bears) → x.row ≢ n → Among x hs → Among x (spent t n hs)
-stays_unspent x t n [] ne m = absurd m
-stays_unspent x t n (h ∷ hs) ne m = go (bears t n h) refl m (stays_unspent x t n hs ne)
-  where
-    go : (b : Bool) → bears t n h ≡ b → Among x (h ∷ hs) → (Among x hs → Among x (spent t n hs)) → Among x (cond b (spent t n hs) (h ∷ spent t n hs))
-    go true q (inl e) rest =
-        absurd (ne (ap (λ (y : Bears). y.row) (sym e) ∙ eqb-true h.row n (and_parts (eqb h.table t) (eqb h.row n) q).1))
-    go true q (inr y) rest = rest y
-    go false q (inl e) rest = inl e
-    go false q (inr y) rest = inr (rest y)
+stays_unspent x t n hs ne m =
+    subst (Among x) (sym (spent_is t n hs)) (stays_in (bears t n) x hs (and_right (eqb x.table t) (eqb x.row n) (ne_eqb x.row n ne)) m)
 
 -- none of these has the number
 pub none_among : (n : ℕ) (cs : List Claim) → NoneNamed n cs → (c : Claim) → Among c cs → number_of c ≢ n

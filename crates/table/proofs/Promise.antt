@@ -46,12 +46,6 @@ is_late e q = go (eqb (hold_number e) 11) refl q
     go true p z = eqb-true (hold_number e) 11 p
     go false p z = let h = at_least_five e in absurd (omega arith)
 
-not_both : (h : Hold) (e : HoldRefusal) → ◌≡◌ {A = Result Hold HoldRefusal} (Ok h) (Err e) → ⊥
-not_both h e p = let z : ◌≡◌ {A = ℕ} 0 1 = cc in omega arith
-
-same_refusal : (d e : HoldRefusal) → ◌≡◌ {A = Result Hold HoldRefusal} (Err d) (Err e) → d ≡ e
-same_refusal d e p = cc
-
 module _ (a : Account) (s : Sound a) where
   bounds_once : (k : ℕ) → k < length a.rows → (r : Result (ℕ × ℕ) BoundRefusal) → BoundsAnswered a (at (loads (ranked a.rows)) k).claim.row.number r → r ≡ Ok (s.in_time.R k, s.in_time.V k)
   bounds_once k h (Ok p) b =
@@ -69,10 +63,10 @@ module _ (a : Account) (s : Sound a) where
 
   late_only : (c : Claim) (r : Result Hold HoldRefusal) (b : Account) → Step a (holding c r) b → first (hold_checks a c) ≡ 0 → (((e : HoldRefusal) × (r ≡ Err e) × (hold_number e ≡ 11)) → NoPlan (system_of (c ∷ a.rows))) × (NoPlan (system_of (c ∷ a.rows)) → (e : HoldRefusal) × (r ≡ Err e) × (hold_number e ≡ 11))
   late_only c (Ok h) b step passes =
-      (λ x. absurd (not_both h x.0 x.1), λ no_plan. absurd (has_plan (c ∷ a.rows) (step.0, s.lawful) step.1.0.in_time no_plan))
+      (λ x. let e = x.1 in cc, λ no_plan. absurd (has_plan (c ∷ a.rows) (step.0, s.lawful) step.1.0.in_time no_plan))
   late_only c (Err d) b step passes = (
     λ x.
-        let late = step.1.0.late (ap hold_number (same_refusal d x.0 x.1) ∙ x.2) in
+        let late = step.1.0.late (let e = x.1 in let same : d ≡ x.0 = cc in ap hold_number same ∙ x.2) in
         late_no_plan (system_of (c ∷ a.rows)) (needs_grow (c ∷ a.rows) (step.0, s.lawful)) late.0 late.1,
     λ no_plan. (d, refl, is_late d (sym step.1.0.by_number ∙ passes)),
   )

@@ -1,6 +1,7 @@
 -- Rows in another order, checks of which none applies, rows that are in time, and places. Assumes nothing.
 use Rattle.std.proofs.Common.{◌≡◌, ℕ, zero, suc, ◌<◌, ◌≤◌, Bool, true, false, cond, ◌||◌, eqb, ltb, ◌≢◌, List, [], ◌∷◌, length, get_or, Some, None, Option, sym, refl, ap, ◌∙◌, subst, arith}
-use mathlib.Core.Bool.{false≢true}
+use Rattle.std.specs.List.{list_any}
+use Rattle.std.proofs.lemmas.List.Recursion.{same_from_clauses}
 use Rattle.std.proofs.lemmas.Bool.{leb-false, ltb-false, or_parts}
 use Rattle.demand.specs.Demand.{Demand}
 use Rattle.demand.specs.Refusals.{first}
@@ -19,7 +20,6 @@ use Rattle.table.specs.declared.State.{State}
 use Rattle.table.specs.declared.State.TheVariants.{Free, Held, Kept}
 use Rattle.table.specs.Account.{Account, number_of, has_number, has_priority, no_byte, hold_checks, hold_number, unspent, AllInTime}
 use Rattle.table.specs.Agreement.{NoneNamed, DistinctNumbers, LawfulRows, StandsAt}
-use Rattle.table.specs.Places.{is_free}
 use Rattle.table.proofs.Parts.{all_lawful, none_named, none_at}
 
 pub reordered_refl : {A : Type 0} (xs : List A) → Reordered xs xs
@@ -42,18 +42,25 @@ or_swap true true z = refl
 or_swap true false z = refl
 or_swap false y z = refl
 
+-- whether one of these passes a test does not hang on their order
+any_reordered : {A : Type 0} (test : A → Bool) {xs ys : List A} → Reordered xs ys → list_any test xs ≡ list_any test ys
+any_reordered test same = refl
+any_reordered test (next {a = a} r) = ap (λ b. test a || b) (any_reordered test r)
+any_reordered test (swapped {a = a} {b = b} {xs = xs}) = or_swap (test a) (test b) (list_any test xs)
+any_reordered test (through r q) = any_reordered test r ∙ any_reordered test q
+
+-- a test of each row in turn is `any`
+is_any : (F : List Claim → Bool) (test : Claim → Bool) → F [] ≡ false → ((c : Claim) (cs : List Claim) → F (c ∷ cs) ≡ (test c || F cs)) → {xs ys : List Claim} → Reordered xs ys → F xs ≡ F ys
+is_any F test none more {xs = xs} {ys = ys} r =
+    let same_as : (cs : List Claim) → F cs ≡ list_any test cs = same_from_clauses F (list_any test) (λ c b. test c || b) none more (λ _ _. refl) in
+    same_as xs ∙ any_reordered test r ∙ sym (same_as ys)
+
 -- the order of the rows does not matter
 pub number_reordered : (n : ℕ) {xs ys : List Claim} → Reordered xs ys → has_number n xs ≡ has_number n ys
-number_reordered n same = refl
-number_reordered n (next {a = c} r) = ap (λ b. eqb (number_of c) n || b) (number_reordered n r)
-number_reordered n (swapped {a = c} {b = d} {xs = xs}) = or_swap (eqb (number_of c) n) (eqb (number_of d) n) (has_number n xs)
-number_reordered n (through r q) = number_reordered n r ∙ number_reordered n q
+number_reordered n = is_any (has_number n) (λ c. eqb (number_of c) n) refl (λ _ _. refl)
 
 pub priority_reordered : (p : ℕ) {xs ys : List Claim} → Reordered xs ys → has_priority p xs ≡ has_priority p ys
-priority_reordered p same = refl
-priority_reordered p (next {a = c} r) = ap (λ b. eqb c.row.priority p || b) (priority_reordered p r)
-priority_reordered p (swapped {a = c} {b = d} {xs = xs}) = or_swap (eqb c.row.priority p) (eqb d.row.priority p) (has_priority p xs)
-priority_reordered p (through r q) = priority_reordered p r ∙ priority_reordered p q
+priority_reordered p = is_any (has_priority p) (λ c. eqb c.row.priority p) refl (λ _ _. refl)
 
 pub named_reordered : (n : ℕ) {xs ys : List Claim} → Reordered xs ys → NoneNamed n xs → NoneNamed n ys
 named_reordered n same h = h
@@ -141,12 +148,9 @@ all_ranks cs t = subst (λ (n : ℕ). Bounds (system_of cs) n t.R t.V) (sym (len
 pub has_plan : (cs : List Claim) → LawfulRows cs → AllInTime cs → NoPlan (system_of cs) → ⊥
 has_plan cs lawful t no_plan = no_plan t.V t.R (is_plan (system_of cs) (needs_grow cs lawful) t.R t.V (all_ranks cs t))
 
-pub none_some : {A : Type 0} (x : A) → ◌≡◌ {A = Option A} None (Some x) → ⊥
-none_some x e = let z : ◌≡◌ {A = ℕ} 0 1 = cc in omega arith
-
 pub none_named_at : {K : Type 0} (demand : K → Demand) (n : ℕ) (os : List (Option (Task K))) (p : ℕ) (u : Task K) → NoneNamed n (claims_of demand os) → get_or os p None ≡ Some u → u.row.number ≢ n
-none_named_at demand n [] p u h e = absurd (none_some u e)
-none_named_at demand n (None ∷ os) zero u h e = absurd (none_some u e)
+none_named_at demand n [] p u h e = cc
+none_named_at demand n (None ∷ os) zero u h e = cc
 none_named_at demand n (None ∷ os) (suc p) u h e = none_named_at demand n os p u h e
 none_named_at {K} demand n (Some x ∷ os) zero u h e =
     let same_task : x ≡ u = cc in
@@ -154,12 +158,6 @@ none_named_at {K} demand n (Some x ∷ os) zero u h e =
 none_named_at demand n (Some x ∷ os) (suc p) u h e = none_named_at demand n os p u h.1 e
 
 module _ {K : Type 0} (a : Account) where
-  pub free_none : (s : State) (o : Option (Task K)) → StandsAt a s o → is_free s ≡ true → o ≡ None
-  free_none Free None stands h = refl
-  free_none Free (Some t) stands h = absurd stands
-  free_none (Held m) o stands h = absurd (false≢true h)
-  free_none (Kept m) o stands h = absurd (false≢true h)
-
   -- a row of another number stands as it stood
   pub stands_still : (b : Account) (n : ℕ) → ((m : ℕ) → m ≢ n → unspent b.number m b.holds ≡ unspent a.number m a.holds) → (s : State) (o : Option (Task K)) → ((t : Task K) → o ≡ Some t → t.row.number ≢ n) → StandsAt a s o → StandsAt b s o
   stands_still b n still Free None other h = tt

@@ -1,8 +1,10 @@
--- What stands at a place. Assumes nothing.
-use Rattle.std.specs.Prelude.{ℕ, Bool, true, false, cond, List, [], ◌∷◌, Some, None, Option, ◌==◌}
+-- What stands at a place, and at which places a table looks. Assumes nothing.
+use Rattle.std.specs.Prelude.{◌≡◌, ℕ, ◌<◌, Bool, false, cond, List, [], ◌∷◌, length, Some, None, Option, MatchOption, ◌==◌, slice_index_or}
 use Rattle.analysis.specs.declared.Answer.{Answer}
+use Rattle.table.specs.declared.Hold.{Hold}
 use Rattle.table.specs.declared.State.{State}
 use Rattle.table.specs.declared.State.TheVariants.{Free, Held, Kept}
+use Rattle.table.specs.declared.Table.{Table}
 
 -- a row with the number n stands there
 abbrev pub names : State → ℕ → Bool
@@ -10,19 +12,24 @@ names Free n = false
 names (Held m) n = m == n
 names (Kept m) n = m == n
 
--- no row stands there
-abbrev pub is_free : State → Bool
-is_free Free = true
-is_free (Held m) = false
-is_free (Kept m) = false
-
--- a held row stands there
-abbrev pub is_held : State → Bool
-is_held Free = false
-is_held (Held m) = true
-is_held (Kept m) = false
-
 -- bound and vector of the first answer for the row with the number n
 abbrev pub answer_of : ℕ → List Answer → Option (ℕ × ℕ)
 answer_of n [] = None
 answer_of n (a ∷ rest) = cond (a.number == n) (Some (a.bound, a.vector)) (answer_of n rest)
+
+module _ {K : Type 0} (t : Table K) where
+  -- the table uses the place: it is one of the first twelve, and within the row memory
+  abbrev pub Uses : ℕ → Type 0
+  Uses p = (p < 12) × (p < length t.places.now)
+
+  -- the table uses the place, and P is true of its state
+  abbrev pub At : (State → Type 0) → ℕ → Type 0
+  At P p = Uses p × P (slice_index_or t.states p Free)
+
+  -- a place that the table uses and of whose state P is true, or `None` where there is none
+  abbrev pub PlaceWhere : (State → Type 0) → Option ℕ → Type 0
+  PlaceWhere P r = MatchOption r ((p : ℕ) → At P p → ⊥) (At P)
+
+  -- the row of the hold is held at the place
+  abbrev pub HeldHere : Hold → ℕ → Type 0
+  HeldHere h p = (h.table ≡ t.number) × At (λ s. s ≡ Held h.row) p

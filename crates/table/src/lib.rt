@@ -16,7 +16,7 @@ use analysis::Task;
 pub const MOST_ROWS: usize = 12;
 
 // What stands at a place: nothing, or a row that is held or kept, by its number.
-#[derive(Clone, Copy)]
+#[derive(Clone, Copy, PartialEq, Eq, Debug)]
 pub enum State {
     Free,
     Held(u32),
@@ -24,10 +24,14 @@ pub enum State {
 }
 
 // A table over row memory that the caller lends. It uses the first twelve places at most.
+// The states stand beside the memory and not in it, since the caller lends places of `Option<Task<K>>`.
+// The table carries no account, and what the calls promise is of every account that agrees with it: a caller may know the
+// same table by an account with its rows in another order, so a promise about one account that is carried would be less.
+// Nor can a ghost field carry one: its rows have the meanings of kinds, which are functions, and those have no code.
 #[derive(Drop)]
 pub struct Table<'a, K> {
     number: u8,
-    states: [State; 12],
+    states: [State; MOST_ROWS],
     places: &'a mut [Option<Task<K>>],
 }
 
@@ -68,6 +72,7 @@ pub enum BoundRefusal {
 }
 
 // The figures worked out by hand follow from the definitions.
+#[tactic(auto, using(crate::proofs::Worked::worked_figures))]
 pub fn worked_figures_hold() -> bool
     ensures { (result ≡ true) × (WorkedFigures) }
 {

@@ -6,7 +6,6 @@ ghost use Rattle.analysis.specs.Ranks.{ranked, loads};
 ghost use Rattle.table.specs.Account.{Account, hold_number, spend_number, withdraw_number, bound_number};
 ghost use Rattle.table.specs.Agreement.{AgreesWith, StateOf};
 
-use super::lookup::count_rows;
 use super::{BoundRefusal, Hold, HoldRefusal, SpendRefusal, State, Table, WithdrawRefusal};
 use analysis::{Answers, JudgeRefusal, judge};
 use demand::Kind;
@@ -27,6 +26,8 @@ impl Hold {
     }
 }
 
+// The numbers of refusals are those that the formats lay down. A cast gives none where a refusal has a value in it, as two
+// of these have, so all four say theirs by a match.
 impl HoldRefusal {
     pub fn number(self) -> u32
         ensures { result ≡ hold_number self }
@@ -79,17 +80,14 @@ impl<'a, K: Kind + Drop> Table<'a, K> {
     pub fn room(&self) -> usize
         ensures { (a : Account) → AgreesWith K.demand a self.now → result + length a.rows ≡ a.room }
     {
-        let places = &*self.places;
-        let used = &places[0..self.limit()];
-        used.len() - count_rows(used)
+        self.used().iter().filter(|place| place.is_none()).count()
     }
 
     // Number, bound, vector and blocking of all rows, highest first. The rows of a table are in time, so it is never an error.
     pub fn answers(&self) -> Result<Answers, JudgeRefusal>
         ensures { (a : Account) → AgreesWith K.demand a self.now → (all : Listed) × (result ≡ Ok all) × Answered (loads (ranked a.rows)) (answers_of all) }
     {
-        let places = &*self.places;
-        judge(&places[0..self.limit()], &None)
+        judge(self.used(), &None)
     }
 
     // Whether the row of this number is held or kept; `Free` where there is no such row.
@@ -97,7 +95,7 @@ impl<'a, K: Kind + Drop> Table<'a, K> {
         ensures { (a : Account) → AgreesWith K.demand a self.now → StateOf a number result }
     {
         match self.place_of(number) {
-            Some(place) => self.state_at(place),
+            Some(place) => self.states[place],
             None => State::Free,
         }
     }

@@ -1,35 +1,29 @@
+use Rattle.std.proofs.Common.{sym, subst}
+use Rattle.analysis.specs.Candidates.{RanksAll}
+use Rattle.std.proofs.lemmas.Result.{err_from_is_err_and}
 use Rattle.analysis.proofs.AnyOrder.{any_order}
 use Rattle.analysis.proofs.Order.{highest_first}
 use Rattle.analysis.proofs.Verdicts as verdicts
 use Rattle.analysis.proofs.judgement.judge.Goals as goal
 
-pub returns-in_default : goal.returns-in_default
-returns-in_default g c =
+pub returns-in_err-ranks : goal.returns-in_err-ranks
+returns-in_err-ranks g c =
     let newcomer = c.args.newcomer.now in
+    let p = err_from_is_err_and c.from_residual.result c.from_residual.ensures.1 in
     record {
-      judged = c.in_default.ensures;
+      judged = rw (p.1, p.2, c.in_err-ranks.ensures.0) c.in_err-ranks.ensures.1;
       late_exactly_when_no_plan = verdicts.late_exactly_when_no_plan g.K.Kind.demand g.met.K.Kind.lawful c.args.places.now newcomer;
       removal_keeps_in_time = verdicts.removal g.K.Kind.demand g.met.K.Kind.lawful c.args.places.now newcomer;
       any_order = any_order _;
       highest_first = highest_first _;
     }
 
-pub returns-in-Ok : goal.returns-in-Ok
-returns-in-Ok g c =
+pub returns : goal.returns
+returns g c =
     let newcomer = c.args.newcomer.now in
+    let all = subst (RanksAll g.K.Kind.demand c.args.places.now newcomer) (sym c.as_slice.ensures.value) c.in_ok-ranks.ensures in
     record {
-      judged = verdicts.in_time g.K.Kind.demand g.met.K.Kind.lawful c.args.places.now newcomer c.in-Some.ranking c.in-Some.ensures _ c.in-Ok.ensures;
-      late_exactly_when_no_plan = verdicts.late_exactly_when_no_plan g.K.Kind.demand g.met.K.Kind.lawful c.args.places.now newcomer;
-      removal_keeps_in_time = verdicts.removal g.K.Kind.demand g.met.K.Kind.lawful c.args.places.now newcomer;
-      any_order = any_order _;
-      highest_first = highest_first _;
-    }
-
-pub returns-in-Err : goal.returns-in-Err
-returns-in-Err g c =
-    let newcomer = c.args.newcomer.now in
-    record {
-      judged = verdicts.some_late g.K.Kind.demand g.met.K.Kind.lawful c.args.places.now newcomer c.in-Some.ranking c.in-Some.ensures c.in-Err.number c.in-Err.ensures;
+      judged = verdicts.verdict g.K.Kind.demand g.met.K.Kind.lawful c.args.places.now newcomer c.as_slice.result.now all c.as_slice.ensures.fits _ c.judge_ranked.ensures;
       late_exactly_when_no_plan = verdicts.late_exactly_when_no_plan g.K.Kind.demand g.met.K.Kind.lawful c.args.places.now newcomer;
       removal_keeps_in_time = verdicts.removal g.K.Kind.demand g.met.K.Kind.lawful c.args.places.now newcomer;
       any_order = any_order _;

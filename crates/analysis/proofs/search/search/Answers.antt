@@ -1,28 +1,18 @@
-use Rattle.std.proofs.Common.{ℕ, ◌^◌, ◌≤◌, length, arith}
+use Rattle.std.proofs.Common.{ap, ℕ, ◌^◌, length, arith}
 use Rattle.std.proofs.lemmas.Nat.{one_shl}
 use Rattle.analysis.specs.Candidates.{need_with}
-use Rattle.analysis.proofs.Jumps.{NoneAmong, jump, covered, uncovered}
+use Rattle.analysis.proofs.Jumps.{NoneAmong, jump}
 use Rattle.analysis.proofs.Rising.{need_rises}
 use Rattle.analysis.proofs.search.search.Goals as goal
 
 pub windows-preserved : goal.windows-preserved
 windows-preserved g c =
-    let needed : ℕ → ℕ → ℕ = need_with g.K.Kind.demand c.args.places.now c.args.newcomer.now c.args.higher.now c.args.alone in
-    let all = one_shl (length c.args.higher.now) 32 (omega arith) in
-    let among : NoneAmong needed (2 ^ length c.args.higher.now) c.windows.window c.vectors.next = λ v h. c.vectors.invariant.1 v (omega arith) in (
+    let needed : ℕ → ℕ → ℕ = need_with g.K.Kind.demand c.args.higher.now.items c.args.alone in
+    let all = one_shl c.len.result 32 (omega arith) in
+    let same = ap (λ (n : ℕ). 2 ^ n) c.len.ensures.value in
+    let among : NoneAmong needed (2 ^ length c.args.higher.now.items) c.windows.window c.vectors.next = λ v h. c.vectors.invariant.1 v (omega arith) in (
       omega arith,
-      jump needed (2 ^ length c.args.higher.now) c.windows.window c.vectors.next
-          (need_rises g.K.Kind.demand g.met.K.Kind.lawful c.args.places.now c.args.newcomer.now c.args.higher.now c.args.alone)
+      jump needed (2 ^ length c.args.higher.now.items) c.windows.window c.vectors.next
+          (need_rises g.K.Kind.demand g.met.K.Kind.lawful c.args.higher.now.items c.args.alone)
           c.windows.invariant.1 among,
     )
-
-pub returns-then-window-from : goal.returns-then-window-from
-returns-then-window-from g c = uncovered _ c.args.deadline (2 ^ length c.args.higher.now) c.windows.window (omega arith) c.windows.invariant.1
-
-pub returns-then-need-window : goal.returns-then-need-window
-returns-then-need-window g c =
-    let needed : ℕ → ℕ → ℕ = need_with g.K.Kind.demand c.args.places.now c.args.newcomer.now c.args.higher.now c.args.alone in
-    let all = one_shl (length c.args.higher.now) 32 (omega arith) in
-    let need_now : needed c.vectors.vector c.windows.window ≤ c.windows.window = omega arith in
-    covered needed c.args.deadline (2 ^ length c.args.higher.now) c.windows.window c.vectors.vector c.vectors.next c.windows.invariant.0
-    (omega arith) (omega arith) c.windows.invariant.1 c.vectors.invariant.1 need_now

@@ -1,12 +1,17 @@
-use Rattle.std.proofs.Common.{◌-◌, ap, ◌∙◌, arith}
-use Rattle.analysis.specs.Candidates.{claims_of}
-use Rattle.table.specs.Account.{has_priority}
-use Rattle.table.proofs.Found.{take_used}
-use Rattle.table.proofs.Lookups.{priority_found}
+use Rattle.std.proofs.Common.{eqb, take, ◌∙◌, rules}
+use borrow.Author.Tests.{tests}
+use Rattle.std.specs.Option.{option_to_list}
+use Rattle.std.proofs.lemmas.Iterator.{YieldsList-from_slice}
+use Rattle.std.proofs.lemmas.Iterator.Consumers.{YieldsList-at}
+use Rattle.std.proofs.lemmas.Iterator.Adapters.{YieldsList-from_flatten}
+use Rattle.std.proofs.lemmas.Iterator.Search.{any_from_yields_List}
+use Rattle.analysis.specs.declared.Task.{Task}
+use Rattle.table.proofs.Lookups.{given_at, priority_is, priority_found}
 use Rattle.table.proofs.Table.has_priority.Goals as goal
 
 pub returns : goal.returns
 returns g c a agrees =
-    c.any_priority.ensures
-    ∙ ap (λ os. has_priority c.args.priority (claims_of g.K.Kind.demand os)) (take_used c.args.self.now.places.now (c.limit.result - 0) (omega arith))
-    ∙ priority_found g.K.Kind.demand a c.args.self.now.number c.args.self.now.states c.args.self.now.places.now agrees c.args.priority
+    any_from_yields_List {v = λ x. x.now} (λ (t : Task g.row.K.Denot). eqb t.row.priority c.args.priority) _ _ _ c.any.ensures.ran
+    (YieldsList-from_flatten _ _ (λ x. x.now) option_to_list (λ x j b. given_at j x.now b.0 b.1) (YieldsList-at c.flatten.ensures.source (YieldsList-from_slice c.used.result.now cc)) c.flatten.ensures.front c.flatten.ensures.back c.flatten.ensures.done)
+    (λ x b q k. search (rules, tests))
+    ∙ rw c.used.ensures (priority_is g.K.Kind.demand c.args.priority (take 12 c.args.self.now.places.now) ∙ priority_found c.args.self.now agrees c.args.priority)

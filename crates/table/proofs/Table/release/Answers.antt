@@ -1,27 +1,17 @@
-use Rattle.std.proofs.Common.{None, refl}
-use Rattle.table.specs.declared.State.TheVariants.{Free}
+use Rattle.std.proofs.Common.{Err, refl, ap, ◌∙◌}
+use Rattle.std.proofs.lemmas.Result.{err_from_is_err_and}
 use Rattle.table.specs.Account.{with_released}
 use Rattle.table.proofs.Changes.{row_released}
-use Rattle.table.proofs.Found.{put_agrees}
-use Rattle.table.proofs.Refusals.{not_unspent, still_ours}
+use Rattle.table.proofs.Spending.{comes_back, is_unspent}
 use Rattle.table.proofs.Table.release.Goals as goal
 
-pub returns-in_default : goal.returns-in_default
-returns-in_default g c =
-    record {
-      account = λ a agrees. (a, (not_unspent g.K.Kind.demand a c.args.self.now agrees c.args.hold c.in_default.ensures, refl, refl), agrees);
-      memory = record { number = refl; states = refl; places = refl; lent = refl };
-    }
+pub returns-in_err-place-clause-account : goal.returns-in_err-place-clause-account
+returns-in_err-place-clause-account g c a agrees =
+    let e = err_from_is_err_and c.from_residual.result c.from_residual.ensures.1 in
+    let back = c.in_err-place.ensures in
+    comes_back c.args.self.now agrees c.args.hold (with_released a c.args.hold) c.from_residual.result (e.1 ∙ ap Err (e.2 ∙ back.0)) back.1
 
-pub returns : goal.returns
-returns g c =
-    let h = c.in-Some.ensures in
-    record {
-      account = λ a agrees. (
-        with_released a c.args.hold,
-        (still_ours g.K.Kind.demand a c.args.self.now agrees c.args.hold c.in-Some.place h, refl),
-        put_agrees g.K.Kind.demand (with_released a c.args.hold) c.args.self.now _ c.in-Some.place Free None c.put.ensures
-            (row_released g.K.Kind.demand a c.args.self.now.number c.args.self.now.states c.args.self.now.places.now agrees agrees.states_are c.in-Some.place c.args.hold.row h.low h.at c.args.hold h.table refl),
-      );
-      memory = record { place = c.in-Some.place; low = h.low; within = h.within; was = h.at; put = c.put.ensures };
-    }
+pub returns-clause-account : goal.returns-clause-account
+returns-clause-account g c a agrees =
+    let here = c.in_ok-place.ensures in
+    (with_released a c.args.hold, (is_unspent c.args.self.now agrees c.args.hold c.in_ok-place.place here, refl), row_released c.args.self.now agrees c.put.new.self c.args.hold c.in_ok-place.place here c.put.ensures)

@@ -1,55 +1,32 @@
-use Rattle.std.proofs.Common.{get_or, is_some, None, sym, refl, ap, ◌∙◌}
-use Rattle.table.specs.declared.State.TheVariants.{Free}
+use Rattle.std.proofs.Common.{◌≡◌, true, is_some, None, sym, refl, ap, ◌∙◌, arith, rules}
+use Rattle.std.proofs.lemmas.Result.{err_from_is_err_and}
+use Rattle.table.specs.declared.WithdrawRefusal.TheVariants.{NoSuchRow}
+use Rattle.table.specs.declared.State.TheVariants.{Held, Kept}
 use Rattle.table.specs.Account.{with_withdrawn}
-use Rattle.table.specs.Places.{is_held}
-use Rattle.table.proofs.Beyond.{number_found_within}
+use Rattle.table.specs.Places.{names, At}
 use Rattle.table.proofs.Changes.{row_withdrawn}
-use Rattle.table.proofs.Found.{names_held, names_kept, put_agrees}
-use Rattle.table.proofs.Spending as spending
+use Rattle.table.proofs.Lookups.{number_found}
+use Rattle.table.proofs.Spending.{has_row, is_held, is_kept}
 use Rattle.table.proofs.Table.withdraw.Goals as goal
 
-pub returns-in_default : goal.returns-in_default
-returns-in_default g c =
-    record {
-      account = λ a agrees. (
-        a,
-        (sym (number_found_within g.K.Kind.demand a c.args.self.now.number c.args.self.now.states c.args.self.now.places.now agrees c.args.number c.place_of.result c.place_of.ensures) ∙ ap is_some c.in_default.is, refl),
-        agrees,
-      );
-      memory = record { number = refl; states = refl; places = refl; lent = refl };
-    }
+pub returns-in_err-place-clause-account : goal.returns-in_err-place-clause-account
+returns-in_err-place-clause-account g c a agrees =
+    let e = err_from_is_err_and c.from_residual.result c.from_residual.ensures.1 in
+    let none : c.place_of.result ≡ None = grind (arith, c.in_err-place.ensures.value) in
+    let refusal : c.in_err-place.field-0.0 ≡ NoSuchRow = grind (arith, c.in_err-place.ensures.value) in
+    (a, rw (e.1, e.2, refusal) (sym (number_found c.args.self.now agrees c.args.number c.place_of.result c.place_of.ensures) ∙ ap is_some none, refl), agrees)
 
-pub returns-then-is_held : goal.returns-then-is_held
-returns-then-is_held g c =
-    let h = c.in-Some.ensures in
-    let at = names_held (get_or c.args.self.now.states c.in-Some.place Free) c.args.number h.2 (ap is_held (sym c.state_at.ensures) ∙ sym c.if-is_held.ensures) in
-    record {
-      account = λ a agrees. (
-        a,
-        (
-          sym (number_found_within g.K.Kind.demand a c.args.self.now.number c.args.self.now.states c.args.self.now.places.now agrees c.args.number c.place_of.result c.place_of.ensures) ∙ ap is_some c.in-Some.is,
-          spending.is_held g.K.Kind.demand a c.args.self.now.number c.args.self.now.states c.args.self.now.places.now agrees agrees.states_are c.in-Some.place c.args.number h.0 at,
-          refl,
-        ),
-        agrees,
-      );
-      memory = record { number = refl; states = refl; places = refl; lent = refl };
-    }
+pub returns-then-eq-clause-account : goal.returns-then-eq-clause-account
+returns-then-eq-clause-account g c a agrees =
+    let at : At c.args.self.now (λ s. names s c.args.number ≡ true) c.in_ok-place.place = search rules in
+    let held : At c.args.self.now (λ s. s ≡ Held c.args.number) c.in_ok-place.place = search rules in
+    (a, (has_row c.args.self.now agrees c.args.number c.in_ok-place.place at, is_held c.args.self.now agrees c.args.number c.in_ok-place.place held, refl), agrees)
 
-pub returns : goal.returns
-returns g c =
-    let h = c.in-Some.ensures in
-    let at = names_kept (get_or c.args.self.now.states c.in-Some.place Free) c.args.number h.2 (ap is_held (sym c.state_at.ensures) ∙ sym c.if-is_held.ensures) in
-    record {
-      account = λ a agrees. (
-        with_withdrawn a c.args.number,
-        (
-          sym (number_found_within g.K.Kind.demand a c.args.self.now.number c.args.self.now.states c.args.self.now.places.now agrees c.args.number c.place_of.result c.place_of.ensures) ∙ ap is_some c.in-Some.is,
-          (spending.is_spent g.K.Kind.demand a c.args.self.now.number c.args.self.now.states c.args.self.now.places.now agrees agrees.states_are c.in-Some.place c.args.number h.0 at).1,
-          refl,
-        ),
-        put_agrees g.K.Kind.demand (with_withdrawn a c.args.number) c.args.self.now _ c.in-Some.place Free None c.put.ensures
-            (row_withdrawn g.K.Kind.demand a c.args.self.now.number c.args.self.now.states c.args.self.now.places.now agrees agrees.states_are c.in-Some.place c.args.number h.0 at),
-      );
-      memory = record { place = c.in-Some.place; low = h.0; within = h.1; was = at; put = c.put.ensures };
-    }
+pub returns-clause-account : goal.returns-clause-account
+returns-clause-account g c a agrees =
+    let at : At c.args.self.now (λ s. names s c.args.number ≡ true) c.in_ok-place.place = search rules in
+    let kept : At c.args.self.now (λ s. s ≡ Kept c.args.number) c.in_ok-place.place = search rules in (
+      with_withdrawn a c.args.number,
+      (has_row c.args.self.now agrees c.args.number c.in_ok-place.place at, is_kept c.args.self.now agrees c.args.number c.in_ok-place.place kept, refl),
+      row_withdrawn c.args.self.now agrees c.put.new.self c.args.number c.in_ok-place.place kept c.put.ensures,
+    )

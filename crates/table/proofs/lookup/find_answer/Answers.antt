@@ -1,14 +1,14 @@
-use Rattle.std.proofs.Common.{sym, ap, arith}
-use Rattle.std.proofs.lemmas.List.{drop_all}
-use Rattle.analysis.specs.Judge.{no_answer}
-use Rattle.analysis.proofs.Back.{back}
-use Rattle.table.specs.Places.{answer_of}
+use Rattle.std.proofs.Common.{◌≡◌, eqb, rules, arith}
+use borrow.Author.Tests.{tests}
+use Rattle.std.specs.Option.{option_map}
+use Rattle.std.proofs.lemmas.Iterator.{YieldsList-from_slice}
+use Rattle.std.proofs.lemmas.Iterator.Search.{find_from_yields_List}
+use Rattle.analysis.specs.declared.Answer.{Answer}
+use Rattle.table.proofs.Lookups.{answer_is}
 use Rattle.table.proofs.lookup.find_answer.Goals as goal
 
-pub loop-i-init : goal.loop-i-init
-loop-i-init c = sym (ap (answer_of c.args.number) (drop_all _ c.args.answers.now (omega arith)))
-
-pub loop-i-preserved : goal.loop-i-preserved
-loop-i-preserved c =
-    let before = ap (answer_of c.args.number) (back c.args.answers.now c.loop-i.i no_answer (omega arith) (omega arith)) in
-    cc (before, c.this_or-found.ensures, c.loop-i.invariant)
+pub returns : goal.returns
+returns c =
+    let e = find_from_yields_List (λ (a : Answer). eqb a.number c.args.number) _ _ c.find.result c.find.ensures.ran (YieldsList-from_slice c.args.answers.now cc) (λ x b q k. search (rules, tests)) in
+    let found : c.map.result ≡ option_map (λ (a : Answer). (a.bound, a.vector)) (option_map (λ x. x.now) c.find.result) = grind (arith, c.map.ensures.cases) in
+    rw (found, e) (answer_is c.args.number c.args.answers.now)

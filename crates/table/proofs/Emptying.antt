@@ -1,0 +1,57 @@
+-- A table over places that were just emptied. Assumes nothing.
+use Rattle.std.proofs.Common.{◌≡◌, ℕ, zero, suc, ◌<◌, min, List, [], ◌∷◌, ◌++◌, length, get_or, take, drop, Some, None, Option, sym, refl, ap, ◌∙◌, subst₂, arith}
+use native.Mathlib.Decide.{dec_lt}
+use Rattle.std.specs.List.{FoldsTo}
+use Rattle.std.proofs.lemmas.List.{length-append, length-drop, get_or_append_left, get_or_past, get_or-take, get_or-replicate}
+use Rattle.std.proofs.lemmas.Slice.{drop-append-drop}
+use Rattle.demand.specs.Demand.{Demand}
+use Rattle.analysis.specs.declared.Task.{Task}
+use Rattle.analysis.specs.Candidates.{claims_of}
+use Rattle.analysis.specs.Ranks.{same}
+use Rattle.table.specs.declared.State.{State}
+use Rattle.table.specs.declared.State.TheVariants.{Free}
+use Rattle.table.specs.Account.{fresh}
+use Rattle.table.specs.Agreement.{StandsAt, Agrees}
+use Rattle.table.specs.Memory.{Emptied}
+use Rattle.table.proofs.Kept.{fresh_sound}
+
+-- what is filled with the answers of a call that answers x has x everywhere
+pub filled : {P A : Type 0} (R : P → A → P → Type 0) (x : A) → ((p : P) (y : A) (q : P) → R p y q → y ≡ x) → (p : P) (ys : List A) (q : P) → FoldsTo R p ys q → (i : ℕ) → get_or ys i x ≡ x
+filled R x gives p [] q ran i = refl
+filled R x gives p (y ∷ ys) q ran zero = gives p y ran.0 ran.1
+filled R x gives p (y ∷ ys) q ran (suc i) = filled R x gives ran.0 ys q ran.2 i
+
+module _ {K : Type 0} (places filled : List (Option (Task K))) (limit : ℕ) (used : limit ≡ min (length places) 12) (long : length filled ≡ limit) (empty : (i : ℕ) → get_or filled i None ≡ None) where
+  pub emptied : Emptied places (filled ++ drop limit places)
+  emptied = record {
+    count = omega (arith, length-append filled (drop limit places), length-drop limit places);
+    empty = at;
+    behind = drop-append-drop limit places filled 12 (omega arith) long;
+  }
+    where
+      at : (i : ℕ) → i < 12 → get_or (filled ++ drop limit places) i None ≡ None
+      at i l = elim (dec_lt i (length filled)) [
+        | yes h ↦ get_or_append_left filled (drop limit places) None i h ∙ empty i
+        | no h ↦ get_or_past (filled ++ drop limit places) i None (omega (arith, length-append filled (drop limit places), length-drop limit places))
+      ]
+
+no_claims : {K : Type 0} (demand : K → Demand) (n : ℕ) (os : List (Option (Task K))) → ((i : ℕ) → i < n → get_or os i None ≡ None) → claims_of demand (take n os) ≡ []
+no_claims demand zero os empty = refl
+no_claims demand (suc n) [] empty = refl
+no_claims demand (suc n) (None ∷ os) empty = no_claims demand n os (λ i l. empty (suc i) (omega arith))
+no_claims demand (suc n) (Some u ∷ os) empty = let e = empty 0 (omega arith) in cc
+
+-- twelve places without a row
+abbrev pub twelve_free : List State
+twelve_free = Free ∷ Free ∷ Free ∷ Free ∷ Free ∷ Free ∷ Free ∷ Free ∷ Free ∷ Free ∷ Free ∷ Free ∷ []
+
+-- an empty table agrees with a fresh account
+pub fresh_agrees : {K : Type 0} (demand : K → Demand) (number : ℕ) (before after : List (Option (Task K))) → Emptied before after → Agrees demand (fresh number (min (length before) 12)) number twelve_free after
+fresh_agrees demand number before after emptied = record {
+  number_is = refl;
+  states_are = refl;
+  room_is = ap (λ n. min n 12) (sym emptied.count);
+  rows_are = rw (no_claims demand 12 after emptied.empty) same;
+  at_each = λ i l. subst₂ (StandsAt (fresh number (min (length before) 12))) (sym (get_or-replicate 12 i Free Free l)) (sym (get_or-take 12 after i None l ∙ emptied.empty i l)) tt;
+  sound = fresh_sound number (min (length before) 12);
+}
