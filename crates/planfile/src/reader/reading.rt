@@ -84,6 +84,13 @@ impl<'a> Line<'a> {
         self.count
     }
 
+    // The first field. There is always one.
+    pub(crate) fn first(&self) -> &'a [u8]
+        ensures { result.now ≡ field 1 self.now }
+    {
+        self.kept[0]
+    }
+
     // The field with this number, from 1.
     pub(crate) fn field(&self, number: usize) -> &'a [u8]
         requires { Keeps self.now number 1 }

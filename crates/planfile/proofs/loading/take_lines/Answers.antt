@@ -9,8 +9,8 @@ use Rattle.planfile.specs.declared.fault.Fault.TheVariants.{Line}
 use Rattle.planfile.specs.Fault.{blame, at_line, line_blame}
 use Rattle.planfile.specs.Laws.{row_lines}
 use Rattle.planfile.specs.Reading.{claim_in, LinesRead}
-use Rattle.planfile.specs.Text.{lines, fields, tab}
-use Rattle.planfile.proofs.Parted.{some_part, ended_line}
+use Rattle.planfile.specs.Text.{lines, fields}
+use Rattle.planfile.proofs.Parted.{ended_line}
 use Rattle.planfile.proofs.LinesRead.{first_line, some_first, few_rows, row_road, row_count, line_at, clock_taken, row_refused, row_taken, no_lines, value_of_line, fault_of_line}
 use Rattle.planfile.proofs.loading.take_lines.Goals as goal
 use Rattle.planfile.proofs.loading.take_lines.Goals.{In-Some}
@@ -20,11 +20,6 @@ unwrap-first-requires c =
     let lines_are = ap (λ text. map fields (lines text)) c.new-reader.ensures in
     some_first lines_left c.new-reader.result c.next.new.self c.next.result c.next.ensures.steps
     (omega (arith, ap length lines_are, length-map (lines c.args.file.now) fields, ended_line c.args.file.now c.requires.ended))
-
-pub read_clock-requires : goal.read_clock-requires
-read_clock-requires c =
-    let first = first_line c.args.file.now c.new-reader.result c.next.new.self _ _ c.new-reader.ensures c.next.ensures.steps c.unwrap-first.ensures in
-    rw first.0 (some_part tab (get_or (lines c.args.file.now) 0 []))
 
 pub loop-index-init-derived : goal.loop-index-init-derived
 loop-index-init-derived c =
@@ -49,12 +44,6 @@ pub number_of_row-number-requires : goal.number_of_row-number-requires
 number_of_row-number-requires c =
     let h = here (goal.at.number_of_row-number-requires c).In-Some in
     omega (arith, h.0, h.1, few_rows c.args.file.now)
-
-pub take_row-requires : goal.take_row-requires
-take_row-requires c =
-    let h = here (goal.at.take_row-requires c).In-Some in
-    let inv = c.loop-index.invariant in
-    record { some = rw h.2 (some_part tab (get_or (row_lines c.args.file.now) (length c.loop-index.yielded) [])); agrees = (inv.0, inv.1) }
 
 pub loop-index-preserved : goal.loop-index-preserved
 loop-index-preserved c =
