@@ -15,4 +15,5 @@ pub mod Parted
 pub mod Cutting
 pub mod Words
 pub mod Reporting
+pub mod Answering
 pub mod PlanFigures

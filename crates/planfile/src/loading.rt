@@ -72,6 +72,7 @@ pub fn load(file: &[u8], report: &mut [u8]) -> Result<usize, Fault>
 }
 
 // Writes the text that answers a plan file, which is its report or the line of its refusal, and answers the length of the text.
+#[tactic(auto, using(crate::proofs::Answering::answered_ok, crate::proofs::Answering::answered_err, crate::proofs::Answering::answer_within))]
 pub fn answer(file: &[u8], out: &mut [u8]) -> Result<usize, Fault>
     ensures text { AnsweredText file.now out.old result out.new }
     ensures within { IfOk result (λ n. n ≤ length out.old) }
