@@ -16,4 +16,5 @@ pub mod Cutting
 pub mod Words
 pub mod Reporting
 pub mod Answering
+pub mod Loads
 pub mod PlanFigures

@@ -57,6 +57,7 @@ fn take_lines(file: &[u8], table: &mut Table<RowKind>) -> Result<(), Fault>
 }
 
 // Reads a plan file, and writes its report at the start of the memory lent for it. The answer is the length of the report.
+#[tactic(auto, using(crate::proofs::Loads::by_file, crate::proofs::Loads::by_lines, crate::proofs::FileOrder::in_file_order, crate::proofs::OneAnswer::one_answer, crate::proofs::RoundTrip::round_trip))]
 pub fn load(file: &[u8], report: &mut [u8]) -> Result<usize, Fault>
     ensures loaded { Loaded file.now report.old result report.new }
     ensures in_file_order { InFileOrder file.now report.old result report.new }
