@@ -25,10 +25,10 @@ fn check_file(file: &[u8], room: usize) -> Result<(), Fault>
     if LONGEST_FILE < file.len() {
         return Err(Fault::File);
     }
-    match file.last() {
-        Some(b'\n') => Ok(()),
-        _ => Err(Fault::File),
+    if !file.ends_with(b"\n") {
+        return Err(Fault::File);
     }
+    Ok(())
 }
 
 // The number of the row line of this index. Line 1 is the clock line.

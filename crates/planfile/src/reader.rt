@@ -30,7 +30,7 @@ impl<'a> Model for Line<'a> {
 #[derive(Clone, Copy)]
 enum State {
     // in the field of this index, which began at this place
-    Field(usize, usize),
+    Field { index: usize, start: usize },
     // behind so many fields
     Ended(usize),
 }

@@ -35,6 +35,7 @@ fn read_numbers<const N: usize>(line: &Line, start: usize) -> Result<[u32; N], L
     requires { Keeps line.now start N }
     ensures { Reads (number_checks line.now start N) (numbers_in line.now start N) result }
 {
+    // A loop, since `try_from_fn` does not say of a fault that it is the first.
     let mut numbers = [0; N];
     for (i, number) in numbers.iter_mut().enumerate() {
         *number = number_at(line, start + i)?;
