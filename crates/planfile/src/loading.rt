@@ -22,10 +22,7 @@ fn check_file(file: &[u8], room: usize) -> Result<(), Fault>
     if room < REPORT_MEMORY {
         return Err(Fault::ReportMemory);
     }
-    if LONGEST_FILE < file.len() {
-        return Err(Fault::File);
-    }
-    if !file.ends_with(b"\n") {
+    if LONGEST_FILE < file.len() || !file.ends_with(b"\n") {
         return Err(Fault::File);
     }
     Ok(())
