@@ -45,7 +45,8 @@ pub struct Task<K> {
     pub kind: K,
 }
 
-// A row where it stands among ranked rows, and the place that it was found at.
+// A row where it stands among ranked rows, and the place that it was found at. The place is a number and not a reference to
+// the task, since a rank is passed to `ceilings_of` by callers that have rows and no kinds.
 #[derive(Clone, Copy, Default)]
 pub struct Rank {
     pub row: Row,
@@ -53,7 +54,7 @@ pub struct Rank {
 }
 
 // What is answered for a row: its bound, the vector that gives it, and how long it can be blocked.
-#[derive(Clone, Copy, Default)]
+#[derive(Clone, Copy, Default, PartialEq, Eq, Debug)]
 pub struct Answer {
     pub number: u32,
     pub bound: u32,
@@ -61,7 +62,8 @@ pub struct Answer {
     pub blocking: u64,
 }
 
-// The figures of a garage of three rows follow from the definitions.
+// The figures of a garage of three rows follow from the definitions. The answer is always `true`: a law is proved where a
+// function ensures it.
 pub fn garage_figures_hold() -> bool
     ensures { (result ≡ true) × (GarageFigures) }
 {

@@ -1,10 +1,7 @@
 // Worked examples, run on the code.
 use super::*;
 use demand::Every;
-use std::process::Abort;
 use std::test::Fail;
-
-const NO_SECTIONS: [u32; 8] = [0; 8];
 
 fn task(
     number: u32,
@@ -15,35 +12,25 @@ fn task(
     job: u32,
     period: u32,
 ) -> Option<Task<Every>> {
-    let mut sections = NO_SECTIONS;
-    sections[0] = lock;
     let row = Row {
         number,
         priority,
         suspension,
         suspensions: suspension.min(1),
         deadline,
-        sections,
+        sections: [lock, 0, 0, 0, 0, 0, 0, 0],
     };
     let kind = Every { job, period };
     Some(Task { row, kind })
 }
 
-fn check_answer(
-    rt: &impl Abort,
-    answers: &Answers,
-    k: usize,
-    number: u32,
-    bound: u32,
-    vector: u32,
-    blocking: u64,
-) -> Result<(), Fail> {
-    let answer = answers.rows().get(k).ok_or("no such answer")?;
-    assert_eq!(rt;
-        (answer.number, answer.bound, answer.vector, answer.blocking),
-        (number, bound, vector, blocking)
-    );
-    Ok(())
+fn answer(number: u32, bound: u32, vector: u32, blocking: u64) -> Answer {
+    Answer {
+        number,
+        bound,
+        vector,
+        blocking,
+    }
 }
 
 #[test]
@@ -55,10 +42,11 @@ fn a_garage_in_any_order(rt: HostRuntime) -> Result<(), Fail> {
         task(2, 20, 0, 15, 0, 3, 16),
     ];
     let answers = judge(&places, &None)?;
-    assert_eq!(rt; answers.rows().len(), 3);
-    check_answer(&rt, &answers, 0, 1, 9, 0, 4)?;
-    check_answer(&rt, &answers, 1, 2, 9, 0, 2)?;
-    check_answer(&rt, &answers, 2, 3, 14, 2, 0)
+    assert_eq!(rt;
+        answers.rows(),
+        [answer(1, 9, 0, 4), answer(2, 9, 0, 2), answer(3, 14, 2, 0)].as_slice()
+    );
+    Ok(())
 }
 
 #[test]
@@ -68,7 +56,8 @@ fn a_newcomer_is_late_at_13_and_in_time_at_14(rt: HostRuntime) -> Result<(), Fai
     assert_eq!(rt; judge(&places, &late).err(), Some(JudgeRefusal::Late(3)));
     let in_time = task(3, 10, 0, 14, 2, 5, 40);
     let answers = judge(&places, &in_time)?;
-    check_answer(&rt, &answers, 2, 3, 14, 2, 0)
+    assert_eq!(rt; answers.rows().get(2), Some(&answer(3, 14, 2, 0)));
+    Ok(())
 }
 
 #[test]
@@ -79,9 +68,10 @@ fn suspensions_alone(rt: HostRuntime) -> Result<(), Fail> {
         task(3, 1, 0, 50, 0, 4, 50),
     ];
     let answers = judge(&places, &None)?;
-    check_answer(&rt, &answers, 0, 1, 9, 0, 0)?;
-    assert_eq!(rt; answers.rows().get(1).ok_or("no answer")?.bound, 15);
-    assert_eq!(rt; answers.rows().get(2).ok_or("no answer")?.bound, 32);
+    let rows = answers.rows();
+    assert_eq!(rt; rows.get(0), Some(&answer(1, 9, 0, 0)));
+    assert_eq!(rt; rows.get(1).map(|row| row.bound), Some(15));
+    assert_eq!(rt; rows.get(2).map(|row| row.bound), Some(32));
     Ok(())
 }
 

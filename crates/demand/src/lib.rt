@@ -89,7 +89,7 @@ fn rounded_up(n: u64, by: u64) -> u64
     n.div_ceil(by)
 }
 
-// Figures that show what the kinds mean.
+// Figures that show what the kinds mean. The answer is always `true`: a law is proved where a function ensures it.
 pub fn kind_figures_hold() -> bool
     ensures { (result ≡ true) × (KindFigures) }
 {

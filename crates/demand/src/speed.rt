@@ -52,7 +52,7 @@ impl Factor {
         up_to_cap(rounded_up(product, u64::from(counted.denominator)))
     }
 
-    // n times the factor, rounded down.
+    // n times the factor, rounded down. One function for both would be passed the division, and be no plainer.
     fn times_down(self, n: u32) -> u32
         ensures { result ≡ times_down (numerator_of self.numerator self.denominator) (denominator_of self.denominator) n }
     {
