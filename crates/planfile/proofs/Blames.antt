@@ -1,6 +1,7 @@
 -- The first check of a list that applies, over lists in a row. Assumes nothing.
 use Rattle.std.proofs.Common.{◌≡◌, ℕ, zero, suc, ◌+◌, ◌-◌, ◌<◌, ◌≤◌, Bool, true, false, not, ◌≢◌, List, [], ◌∷◌, ◌++◌, length, sym, refl, ap, ◌∙◌, add-zero, zero-add, arith, ltb-false, eqb-true}
 use borrow.Author.Tests.{eqb-false, not-false}
+use Rattle.std.proofs.lemmas.Bool.{cond-false}
 use Rattle.demand.specs.declared.KindRefusal.{KindRefusal}
 use Rattle.demand.specs.declared.KindRefusal.TheVariants.{Job, Period, Delay, Speed}
 use Rattle.demand.specs.Refusals.{first, refusal_number}
@@ -82,12 +83,6 @@ first_of_none [] = refl
 first_of_none ((true, n) ∷ cs) = refl
 first_of_none ((false, n) ∷ cs) = first_of_none cs
 
--- the same of numbers alone
-pub first_passed : (xs ys : List (Bool × ℕ)) → Numbered (blaming_none xs) → first xs ≡ 0 → first (xs ++ ys) ≡ first ys
-first_passed [] ys all e = refl
-first_passed ((true, n) ∷ xs) ys all e = absurd (all.0 e)
-first_passed ((false, n) ∷ xs) ys all e = first_passed xs ys all.1 e
-
 pub numbered_jobs : (jobs : Jobs) → Numbered (blaming_none (jobs_checks jobs))
 numbered_jobs (Left k) = (kind_numbered Job, (kind_numbered Period, tt))
 numbered_jobs (Right k) = (kind_numbered Job, (kind_numbered Period, tt))
@@ -129,6 +124,15 @@ pub none_apply : (xs : List (Bool × Blame)) → Numbered xs → first_blame xs 
 none_apply [] all e = tt
 none_apply ((true, b) ∷ xs) all e = absurd (all.0 (ap (λ (x : Blame). x.number) e))
 none_apply ((false, b) ∷ xs) all e = (refl, none_apply xs all.1 e)
+
+-- then those behind decide
+pub none_front : (cs ds : List (Bool × Blame)) → NoneApply cs → first_blame (cs ++ ds) ≡ first_blame ds
+none_front [] ds h = refl
+none_front (c ∷ cs) ds h = cond-false c.0 c.1 (first_blame (cs ++ ds)) h.0 ∙ none_front cs ds h.1
+
+pub none_append : (cs ds : List (Bool × Blame)) → NoneApply cs → NoneApply ds → NoneApply (cs ++ ds)
+none_append [] ds h k = k
+none_append (c ∷ cs) ds h k = (h.0, none_append cs ds h.1 k)
 
 -- A row line whose words pass has the fields that its kind asks for.
 pub record WordsPass (fs : List (List ℕ)) (kind : Word) : Type 0 where

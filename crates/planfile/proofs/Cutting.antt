@@ -1,24 +1,28 @@
 -- What a byte does to the cut of a line.
-use Rattle.std.proofs.Common.{◌≡◌, ℕ, zero, suc, ◌+◌, ◌<◌, ◌≤◌, ◌≢◌, List, [], ◌∷◌, ◌++◌, length, get_or, take, drop, sym, refl, ap, ◌∙◌, subst, arith}
+use Rattle.std.proofs.Common.{◌≡◌, ℕ, zero, suc, ◌+◌, ◌<◌, ◌≤◌, ◌≢◌, List, [], ◌∷◌, ◌++◌, map, length, get_or, take, drop, Bor, sym, refl, ap, ◌∙◌, subst, arith}
 use native.Mathlib.Nat.{sub_self}
 use Rattle.std.specs.List.{between}
 use Rattle.std.proofs.lemmas.List.Edits.{between_more}
-use Rattle.std.proofs.lemmas.List.{length_push, take_more, take_all, take-append-drop, drop_more}
+use Rattle.std.proofs.lemmas.List.{get_or-take, get_or-map, length-map, length-take, length_push, take_more, take_all, take-append-drop, drop_more}
 use Rattle.planfile.specs.declared.reader.State.{State}
 use Rattle.planfile.specs.declared.reader.State.TheVariants.{Field}
 use Rattle.planfile.specs.Steps.{InField, Behind, Taking}
 use Rattle.planfile.specs.Text.{newline, tab, parted_by, lines}
 use Rattle.planfile.proofs.Parted.{parted_at, parted_on, first_line}
 
--- at the start of a text
-pub begins : (text : List ℕ) → InField text 0 [] 0 0
-begins text = record { begun = omega arith; low = omega arith; one_line = refl; before = []; cut = refl; size = refl; first_twenty = refl }
-
 -- the first n of a list with more behind it need only the first n of the list
 take_front : (n : ℕ) (xs ys : List (List ℕ)) → take n (take n xs ++ ys) ≡ take n (xs ++ ys)
 take_front zero xs ys = refl
 take_front (suc n) [] ys = refl
 take_front (suc n) (x ∷ xs) ys = ap (λ zs. x ∷ zs) (take_front n xs ys)
+
+-- a line keeps its first twenty fields
+module _ (kept : List (Bor (List ℕ))) (fs : List (List ℕ)) (first_twenty : map (λ f. f.now) kept ≡ take 20 fs) (k : ℕ) (few : k < 20) (within : k < length fs) where
+  pub is_kept : k < length kept
+  is_kept = omega (arith, length-map kept (λ (f : Bor (List ℕ)). f.now), ap length first_twenty, length-take 20 fs)
+
+  pub field_is : (d : Bor (List ℕ)) → (get_or kept k d).now ≡ get_or fs k []
+  field_is d = sym (get_or-map (λ f. f.now) kept k d [] is_kept) ∙ (ap (λ xs. get_or xs k []) first_twenty ∙ get_or-take 20 fs k [] few)
 
 -- what is said of a reader in a field, at that field
 pub in_field : (text : List ℕ) (at : ℕ) (kept : List (List ℕ)) (state : State) (i start : ℕ) → state ≡ Field i start → Taking text at kept state → InField text at kept i start

@@ -1,13 +1,15 @@
 -- Texts that are made of parts, each before, between or behind what parts them. Assumes nothing.
 use Rattle.std.proofs.Common.{◌≡◌, ℕ, ◌+◌, ◌-◌, ◌*◌, ◌≤◌, true, false, eqb, List, [], ◌∷◌, ◌++◌, length, get_or, take, sym, refl, ap, ◌∙◌, arith}
 use Rattle.std.proofs.lemmas.List.{append-nil, append_assoc, length-append, length_push, take_at, get_or_push}
-use Rattle.std.proofs.lemmas.Bool.{cond-true, cond-false, eq-eqb}
-use Rattle.planfile.specs.Text.{tab, newline, onto_first, parted_by, lines, fields, ended}
+use Rattle.std.proofs.lemmas.Bool.{eq-eqb}
+use Rattle.std.specs.List.{AllByRecursion}
+use Rattle.std.proofs.lemmas.List.Elements.{All-from_recursion}
+use Rattle.std.proofs.lemmas.List.Splits.{slice_split_none, slice_split_at}
+use Rattle.planfile.specs.Text.{tab, newline, parted_by, lines, fields, ended}
 
 -- no byte is this one
 abbrev pub Lacks : ℕ → List ℕ → Type 0
-Lacks separator [] = Unit {0}
-Lacks separator (b ∷ bs) = (eqb b separator ≡ false) × Lacks separator bs
+Lacks separator = AllByRecursion (λ b. eqb b separator ≡ false)
 
 pub lacks_append : (separator : ℕ) (p q : List ℕ) → Lacks separator p → Lacks separator q → Lacks separator (p ++ q)
 lacks_append separator [] q h k = k
@@ -15,18 +17,12 @@ lacks_append separator (b ∷ p) q h k = (h.0, lacks_append separator p q h.1 k)
 
 -- a text with nothing that parts it is one part
 parted_end : (separator : ℕ) (p : List ℕ) → Lacks separator p → parted_by separator p ≡ p ∷ []
-parted_end separator [] h = refl
-parted_end separator (b ∷ p) h =
-    cond-false (eqb b separator) ([] ∷ parted_by separator p) (onto_first b (parted_by separator p)) h.0
-    ∙ ap (onto_first b) (parted_end separator p h.1)
+parted_end separator p h = slice_split_none (λ b. eqb b separator) p (All-from_recursion (λ b. eqb b separator ≡ false) p h)
 
 -- the first part, and those behind it
 parted_front : (separator : ℕ) (p rest : List ℕ) → Lacks separator p → parted_by separator (p ++ separator ∷ rest) ≡ p ∷ parted_by separator rest
-parted_front separator [] rest h =
-    cond-true (eqb separator separator) ([] ∷ parted_by separator rest) (onto_first separator (parted_by separator rest)) (eq-eqb separator separator refl)
-parted_front separator (b ∷ p) rest h =
-    cond-false (eqb b separator) ([] ∷ parted_by separator (p ++ separator ∷ rest)) (onto_first b (parted_by separator (p ++ separator ∷ rest))) h.0
-    ∙ ap (onto_first b) (parted_front separator p rest h.1)
+parted_front separator p rest h =
+    slice_split_at (λ b. eqb b separator) p separator rest (All-from_recursion (λ b. eqb b separator ≡ false) p h) (eq-eqb separator separator refl)
 
 -- fields, each behind a tab
 abbrev pub tabbed : List (List ℕ) → List ℕ

@@ -15,4 +15,6 @@ pub mod Parted
 pub mod Cutting
 pub mod Words
 pub mod Reporting
+pub mod Answering
+pub mod Loads
 pub mod PlanFigures

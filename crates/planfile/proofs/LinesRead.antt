@@ -1,5 +1,5 @@
 -- What the lines of a file give, one after the other. Assumes nothing.
-use Rattle.std.proofs.Common.{◌≡◌, ℕ, ◌+◌, ◌^◌, ◌<◌, ◌≤◌, ◌≢◌, List, [], ◌∷◌, map, length, get_or, drop, Option, Some, None, Ok, Err, Result, sym, refl, ap, ◌∙◌, subst, inl, inr, arith, drop_of_length-le, MatchResult}
+use Rattle.std.proofs.Common.{◌≡◌, ℕ, ◌+◌, ◌^◌, ◌<◌, ◌≤◌, List, [], ◌∷◌, map, length, get_or, drop, Option, Some, None, Ok, Err, Result, sym, refl, ap, ◌∙◌, subst, inl, inr, arith, drop_of_length-le, MatchResult}
 use Rattle.std.specs.List.{enumerate_from}
 use Rattle.std.specs.Iterator.{YieldsFirst}
 use Rattle.std.specs.Iterator.Adapters.{enumerate_steps}
@@ -12,16 +12,14 @@ use Rattle.std.proofs.lemmas.List.{drop_more, get_or-map, length-map, length-dro
 use Rattle.std.proofs.lemmas.List.FromFn.{length-enumerate_from, get_or-enumerate_from}
 use Rattle.analysis.specs.Ranks.{Claim}
 use Rattle.demand.specs.declared.speed.Factor.{Factor}
-use Rattle.planfile.specs.declared.fault.LineFault.{LineFault}
 use Rattle.planfile.specs.declared.fault.Blame.{Blame}
-use Rattle.planfile.specs.Fault.{nothing, at_line, first_blame, line_blame}
+use Rattle.planfile.specs.Fault.{nothing, at_line, first_blame}
 use Rattle.planfile.specs.Checks.{clock_checks, clock_of}
 use Rattle.planfile.specs.Reading.{claim_in, clock_fields, RowTaken, RowRefused, RowsRead, LinesRead}
 use Rattle.planfile.specs.declared.reader.Reader.{Reader}
 use Rattle.planfile.specs.Cut.{lines_left}
 use Rattle.planfile.specs.Laws.{row_lines}
 use Rattle.planfile.specs.Text.{lines, fields}
-use Rattle.planfile.proofs.Blames.{fault_numbered}
 use Rattle.planfile.proofs.Parted.{few_lines}
 
 -- the first of some lines, and the others
@@ -66,10 +64,6 @@ line_at ls k i line (lt, e) =
     let is : ◌≡◌ {A = ℕ × List (List ℕ)} (i, line) (0 + k, get_or (map fields ls) k line) = e ∙ get_or-enumerate_from 0 (map fields ls) k (i, line) inside in
     let index : i ≡ 0 + k = ap (λ (p : ℕ × List (List ℕ)). p.0) is in
     (within, omega arith, ap (λ (p : ℕ × List (List ℕ)). p.1) is ∙ get_or-map fields ls k [] line within)
-
--- the clock line is refused
-pub clock_refused : (text : List ℕ) (f : LineFault) → first_blame (clock_checks (clock_fields text)) ≡ line_blame f → LinesRead text (Err (at_line 1 (line_blame f)))
-clock_refused text f e = inl (subst (λ (b : Blame). b.number ≢ 0) (sym e) (fault_numbered f), ap (λ b. Err (at_line 1 b)) (sym e))
 
 -- the clock line passes, so the row lines decide
 pub clock_taken : (text : List ℕ) (clock : Factor) (r : Result (List Claim) Blame) → first_blame (clock_checks (clock_fields text)) ≡ nothing → clock ≡ clock_of (clock_fields text) → RowsRead clock 2 [] (row_lines text) r → LinesRead text r

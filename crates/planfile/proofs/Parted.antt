@@ -1,8 +1,11 @@
 -- The parts of a text, as the text goes on.
-use Rattle.std.proofs.Common.{◌≡◌, ℕ, ◌+◌, ◌-◌, ◌<◌, ◌≤◌, true, false, eqb, ◌≢◌, List, [], ◌∷◌, ◌++◌, length, get_or, take, drop_of_length-le, sym, refl, ap, ◌∙◌, inl, inr, append_assoc, not-suc-le-zero, sub-one, arith, length-append}
+use Rattle.std.proofs.Common.{◌≡◌, ℕ, ◌-◌, ◌<◌, ◌≤◌, true, false, eqb, ◌≢◌, List, [], ◌∷◌, ◌++◌, length, get_or, take, drop_of_length-le, sym, refl, ap, ◌∙◌, inl, inr, append_assoc, not-suc-le-zero, sub-one, arith, length-append}
 use Rattle.std.proofs.lemmas.List.{append-nil, same_from_push, length-take, take-append-drop, drop_more}
-use Rattle.std.proofs.lemmas.Bool.{cases_Bool, cond_both, eq-eqb, eqb-true, ne_eqb}
-use Rattle.planfile.specs.Text.{newline, onto_first, parted_by, lines, ended}
+use Rattle.std.proofs.lemmas.Bool.{cases_Bool, eq-eqb, eqb-true, ne_eqb}
+use Rattle.std.specs.List.{onto_first}
+use Rattle.std.proofs.lemmas.List.Splits.{length-slice_split}
+use Rattle.std.proofs.lemmas.List.Sums.{count_by-le-length}
+use Rattle.planfile.specs.Text.{newline, parted_by, lines, ended}
 
 -- a text in front of the first part
 abbrev pub onto_front : List ℕ → List (List ℕ) → List (List ℕ)
@@ -19,17 +22,9 @@ front_none : (qs : List (List ℕ)) → 0 < length qs → onto_front [] qs ≡ q
 front_none [] h = absurd (not-suc-le-zero h)
 front_none (q ∷ qs) h = refl
 
--- a byte makes a part
-first_some : (b : ℕ) (qs : List (List ℕ)) → 0 < length (onto_first b qs)
-first_some b [] = omega arith
-first_some b (q ∷ qs) = omega arith
-
 -- there is a part at least
 pub some_part : (sep : ℕ) (xs : List ℕ) → 0 < length (parted_by sep xs)
-some_part sep [] = omega arith
-some_part sep (b ∷ xs) =
-    cond_both (eqb b sep) ([] ∷ parted_by sep xs) (onto_first b (parted_by sep xs)) (λ ps. 0 < length ps) (λ _. omega arith)
-    (λ _. first_some b (parted_by sep xs))
+some_part sep xs = omega (arith, length-slice_split (λ b. eqb b sep) xs)
 
 -- a text has a last part, and more text goes on with that
 record Goes_on (sep : ℕ) (xs : List ℕ) : Type 0 where
@@ -81,13 +76,6 @@ parted_on sep b xs done last ne cut =
     let m = parted_more sep xs (b ∷ []) done last cut in
     simp e at m
 
--- a text that a separator ends has two parts or more
-pub not_one_part : (sep : ℕ) (xs p : List ℕ) → parted_by sep (xs ++ sep ∷ []) ≡ p ∷ [] → ⊥
-not_one_part sep xs p one =
-    let g = goes_on sep xs in
-    let two = parted_at sep xs [] g.done g.last g.cut in
-    omega (arith, simp length-append at (ap length (sym two ∙ one)))
-
 -- all parts but the last, with one more in front
 lines_cons : (p : List ℕ) (ps : List (List ℕ)) → 0 < length ps → take (length (p ∷ ps) - 1) (p ∷ ps) ≡ p ∷ take (length ps - 1) ps
 lines_cons p [] h = absurd (not-suc-le-zero h)
@@ -99,23 +87,11 @@ first_line p rest one =
     let two : parted_by newline (p ++ newline ∷ rest) ≡ p ∷ parted_by newline rest = parted_at newline p rest [] p one in
     rw two (lines_cons p (parted_by newline rest) (some_part newline rest))
 
--- a byte in front makes at most one part more
-first_few : (b : ℕ) (qs : List (List ℕ)) → length (onto_first b qs) ≤ length qs + 1
-first_few b [] = omega arith
-first_few b (q ∷ qs) = omega arith
-
--- there is at most one part more than there are bytes
-parted_few : (sep : ℕ) (xs : List ℕ) → length (parted_by sep xs) ≤ length xs + 1
-parted_few sep [] = omega arith
-parted_few sep (b ∷ xs) =
-    let rest = parted_few sep xs in
-    cond_both (eqb b sep) ([] ∷ parted_by sep xs) (onto_first b (parted_by sep xs)) (λ ps. length ps ≤ length (b ∷ xs) + 1) (λ _. omega arith)
-    (λ _. omega (arith, first_few b (parted_by sep xs)))
-
 -- there are no more lines than bytes
 pub few_lines : (text : List ℕ) → length (lines text) ≤ length text
 few_lines text =
-    let few = parted_few newline text in
+    let parts = length-slice_split (λ b. eqb b newline) text in
+    let few = count_by-le-length (λ b. eqb b newline) text in
     simp length-take (omega arith)
 
 -- a text that is ended by a newline has a line

@@ -38,18 +38,14 @@ rows_limited clock n rows [] out read small few =
     let e : out ≡ rows = cc in
     subst (λ (cs : List Claim). AllLimited cs × (length cs ≤ 12)) (sym e) (small, few)
 rows_limited clock n rows (l ∷ ls) out (inl (b, refused, e)) small few =
-    let no : ◌≡◌ {A = ℕ} 0 1 = cc in
-    let never : ⊥ = omega arith in
-    absurd never
+    absurd (cc)
 rows_limited clock n rows (l ∷ ls) out (inr (taken, read)) small few =
     let one = row_limited clock rows (fields l) taken in
     rows_limited clock (n + 1) (claim_in clock (fields l) ∷ rows) ls out read (one.0, small) (let r = one.1 in omega arith)
 
 lines_limited : (text : List ℕ) (out : List Claim) → LinesRead text (Ok out) → AllLimited out × (length out ≤ 12)
 lines_limited text out (inl (some, e)) =
-    let no : ◌≡◌ {A = ℕ} 0 1 = cc in
-    let never : ⊥ = omega arith in
-    absurd never
+    absurd (cc)
 lines_limited text out (inr (pass, read)) = rows_limited _ 2 [] _ out read tt (omega arith)
 
 limited_reordered : {xs ys : List Claim} → Reordered xs ys → AllLimited xs → AllLimited ys

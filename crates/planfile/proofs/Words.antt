@@ -1,9 +1,10 @@
 -- A word is told by its length and its bytes, one by one.
-use Rattle.std.proofs.Common.{◌≡◌, ℕ, suc, Bool, true, cond, ◌&&◌, eqb, List, [], ◌∷◌, length, get_or, codes, refl, arith}
+use Rattle.std.proofs.Common.{◌≡◌, ℕ, suc, Bool, true, cond, ◌&&◌, eqb, ◌==◌, List, [], ◌∷◌, length, get_or, codes, refl, arith}
 use Rattle.std.proofs.lemmas.Bool.Decides.{nat_tests}
 use Rattle.planfile.specs.declared.word.Word.{Word}
 use Rattle.planfile.specs.declared.word.Word.TheVariants.{Clock, Row, Every, Heavy, Other}
-use Rattle.planfile.specs.Text.{same_bytes, word_of}
+use Rattle.std.specs.Cmp.Lexicographic.{pointwise}
+use Rattle.planfile.specs.Text.{word_of}
 
 -- the bytes w stand in f from index i on
 abbrev reads : List ℕ → ℕ → List ℕ → Bool
@@ -20,7 +21,7 @@ abbrev is : List ℕ → List ℕ → Bool
 is f w = eqb (length f) (length w) && reads f 0 w
 
 -- the two tests agree
-same_is : (f w : List ℕ) → same_bytes f w ≡ is f w
+same_is : (f w : List ℕ) → pointwise ◌==◌ f w ≡ is f w
 same_is [] [] = refl
 same_is [] (b ∷ w) = grind (arith, nat_tests)
 same_is (x ∷ f) [] = grind (arith, nat_tests)

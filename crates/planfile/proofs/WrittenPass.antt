@@ -1,38 +1,15 @@
 -- The lines of a written plan file pass their checks, and say what was written. Assumes nothing.
-use Rattle.std.proofs.Common.{◌≡◌, ℕ, zero, suc, ◌+◌, ◌-◌, ◌≤◌, Bool, false, not, List, [], ◌∷◌, ◌++◌, map, length, get_or, drop, codes, decimal, refl, ap, ◌∙◌, subst, arith}
-use Rattle.std.proofs.lemmas.Bool.{cond-false}
-use Rattle.demand.specs.Refusals.{first, delayed_checks, slowed_checks}
-use Rattle.table.proofs.Shared.{Numbered, not_taken}
+use Rattle.std.proofs.Common.{◌≡◌, ℕ, zero, suc, ◌+◌, ◌-◌, ◌≤◌, not, List, [], ◌∷◌, ◌++◌, map, length, get_or, drop, codes, decimal, refl, ap, ◌∙◌, subst, arith}
+use Rattle.demand.specs.Refusals.{first, slowed_checks}
+use Rattle.planfile.proofs.Blames.{NoneApply, none_front, none_append, first_of_none}
 use Rattle.demand.specs.declared.speed.Factor.{Factor}
 use Rattle.either.specs.declared.Either.TheVariants.{Left, Right}
-use Rattle.planfile.specs.declared.fault.Blame.{Blame}
 use Rattle.planfile.specs.Fault.{nothing, first_blame, by}
 use Rattle.planfile.specs.Text.{fields, field, word_of, value, is_number}
-use Rattle.planfile.specs.Checks.{Jobs, Entry, number_checks, blaming_none, clock_of, clock_checks, entry_of, jobs_in, word_checks, text_checks, jobs_demand, jobs_checks, kind_checks, line_checks}
+use Rattle.planfile.specs.Checks.{Jobs, Entry, number_checks, blaming_none, clock_of, clock_checks, entry_of, jobs_in, word_checks, text_checks, kind_checks, line_checks}
 use Rattle.planfile.specs.Laws.{numbers_of, AllFit, jobs_numbers, Writable}
 use Rattle.planfile.proofs.Joined.{Parts, fields_are}
 use Rattle.planfile.proofs.WrittenLines.{reads, number_passes, decimal_parts, row_parts, row_parts_are, row_word, row_line, clock_word, clock_parts, clock_line}
-
--- no check applies
-abbrev NoneApplies : List (Bool × Blame) → Type 0
-NoneApplies [] = Unit {0}
-NoneApplies (c ∷ cs) = (c.0 ≡ false) × NoneApplies cs
-
--- then those behind decide
-none_front : (cs ds : List (Bool × Blame)) → NoneApplies cs → first_blame (cs ++ ds) ≡ first_blame ds
-none_front [] ds h = refl
-none_front (c ∷ cs) ds h = cond-false c.0 c.1 (first_blame (cs ++ ds)) h.0 ∙ none_front cs ds h.1
-
-none_append : (cs ds : List (Bool × Blame)) → NoneApplies cs → NoneApplies ds → NoneApplies (cs ++ ds)
-none_append [] ds h k = k
-none_append (c ∷ cs) ds h k = (h.0, none_append cs ds h.1 k)
-
--- where the first number is 0, nothing is to blame
-kinds_pass : (cs : List (Bool × ℕ)) → Numbered 1 4 cs → first cs ≡ 0 → first_blame (blaming_none cs) ≡ nothing
-kinds_pass [] n z = refl
-kinds_pass (c ∷ cs) n z =
-    let no_check = not_taken c.0 c.1 (first cs) n.0.0 z in
-    cond-false c.0 (by c.1) (first_blame (blaming_none cs)) no_check.0 ∙ kinds_pass cs n.1 no_check.1
 
 -- these numbers are written in the fields from field k on
 abbrev NumbersAt : List (List ℕ) → ℕ → List ℕ → Type 0
@@ -40,7 +17,7 @@ NumbersAt fs k [] = Unit {0}
 NumbersAt fs k (n ∷ ns) = (field k fs ≡ decimal n) × NumbersAt fs (k + 1) ns
 
 -- fields of numbers pass
-numbers_pass : (fs : List (List ℕ)) (k : ℕ) (ns : List ℕ) → NumbersAt fs k ns → AllFit ns → NoneApplies (number_checks fs k (length ns))
+numbers_pass : (fs : List (List ℕ)) (k : ℕ) (ns : List ℕ) → NumbersAt fs k ns → AllFit ns → NoneApply (number_checks fs k (length ns))
 numbers_pass fs k [] h fit = tt
 numbers_pass fs k (n ∷ ns) h fit =
     (ap (λ (f : List ℕ). not (is_number f)) h.0 ∙ number_passes n fit.0, numbers_pass fs (k + 1) ns h.1 fit.1)
@@ -69,7 +46,7 @@ module _ (clock : Factor) (numerator : clock.numerator ≤ 4_294_967_295) (denom
       ∙ none_front (number_checks (clock_written clock) 2 2) (blaming_none (slowed_checks (value (decimal clock.numerator)) (value (decimal clock.denominator))))
       (numbers_pass (clock_written clock) 2 (clock.numerator ∷ clock.denominator ∷ []) (refl, (refl, tt)) (numerator, (denominator, tt)))
       ∙ ap (λ (c : Factor). first_blame (blaming_none (slowed_checks c.numerator c.denominator))) clock_says
-      ∙ kinds_pass (slowed_checks clock.numerator clock.denominator) ((omega arith, omega arith), tt) z
+      ∙ (first_of_none (slowed_checks clock.numerator clock.denominator) ∙ ap by z)
 
 -- the first n of a list, 0 where there are fewer
 abbrev firsts : ℕ → List ℕ → List ℕ
@@ -109,7 +86,7 @@ all_read (n ∷ ns) h = λ i. reads n h.0 i ∷ all_read ns h.1 i
 
 -- the fields of an entry's row line pass, and say what the entry says
 abbrev SaidByLine : Entry → Type 0
-SaidByLine e = AllFit (numbers_of e) → AllFit (jobs_numbers e.jobs) → NoneApplies (text_checks (row_written e)) × (entry_of (row_written e) ≡ e)
+SaidByLine e = AllFit (numbers_of e) → AllFit (jobs_numbers e.jobs) → NoneApply (text_checks (row_written e)) × (entry_of (row_written e) ≡ e)
 
 module _ (e : Entry) (ss : List ℕ) where
   -- the entry with eight sections
@@ -119,16 +96,16 @@ module _ (e : Entry) (ss : List ℕ) where
   abbrev line : Jobs → List (List ℕ)
   line jobs = row_written (eight jobs)
 
-  words_pass : (jobs : Jobs) → NoneApplies (word_checks (line jobs))
+  words_pass : (jobs : Jobs) → NoneApply (word_checks (line jobs))
   words_pass (Left k) = (refl, (refl, (refl, (refl, tt))))
   words_pass (Right k) = (refl, (refl, (refl, (refl, tt))))
 
-  front_passes : (jobs : Jobs) → AllFit (numbers_of (eight jobs)) → NoneApplies (number_checks (line jobs) 2 14)
+  front_passes : (jobs : Jobs) → AllFit (numbers_of (eight jobs)) → NoneApply (number_checks (line jobs) 2 14)
   front_passes jobs n =
       numbers_pass (line jobs) 2 (numbers_of (eight jobs))
       (refl, (refl, (refl, (refl, (refl, (refl, (refl, (refl, (refl, (refl, (refl, (refl, (refl, (refl, tt)))))))))))))) n
 
-  back_passes : (jobs : Jobs) → AllFit (jobs_numbers jobs) → NoneApplies (number_checks (line jobs) 17 (length (line jobs) - 16))
+  back_passes : (jobs : Jobs) → AllFit (jobs_numbers jobs) → NoneApply (number_checks (line jobs) 17 (length (line jobs) - 16))
   back_passes (Left k) j = numbers_pass (line (Left k)) 17 (k.job ∷ k.period ∷ []) (refl, (refl, tt)) j
   back_passes (Right k) j = numbers_pass (line (Right k)) 17 (k.job ∷ k.heavy ∷ k.among ∷ k.period ∷ []) (refl, (refl, (refl, (refl, tt)))) j
 
@@ -154,13 +131,8 @@ module _ (e : Entry) (ss : List ℕ) where
     },
   )
 
--- the checks of a kind have numbers from 1 to 4
-kind_numbered : (jobs : Jobs) (delay : ℕ) → Numbered 1 4 (jobs_checks jobs ++ delayed_checks delay (jobs_demand jobs))
-kind_numbered (Left k) delay = ((omega arith, omega arith), ((omega arith, omega arith), ((omega arith, omega arith), tt)))
-kind_numbered (Right k) delay = ((omega arith, omega arith), ((omega arith, omega arith), ((omega arith, omega arith), tt)))
-
 module _ (e : Entry) (w : Writable e) where
-  said : NoneApplies (text_checks (row_written e)) × (entry_of (row_written e) ≡ e)
+  said : NoneApply (text_checks (row_written e)) × (entry_of (row_written e) ≡ e)
   said =
       let same : with_parts e (firsts 8 e.row.sections) e.jobs ≡ e = ap (λ (ss : List ℕ). with_parts e ss e.jobs) (firsts_are 8 e.row.sections w.locks) in
       subst SaidByLine same (eight_said e e.row.sections e.jobs) w.numbers w.jobs
@@ -177,4 +149,4 @@ module _ (e : Entry) (w : Writable e) where
       ap (λ (fs : List (List ℕ)). first_blame (line_checks fs)) row_fields_are
       ∙ none_front (text_checks (row_written e)) (blaming_none (kind_checks (entry_of (row_written e)))) said.0
       ∙ ap (λ (f : Entry). first_blame (blaming_none (kind_checks f))) said.1
-      ∙ kinds_pass (kind_checks e) (kind_numbered e.jobs e.delay) z
+      ∙ (first_of_none (kind_checks e) ∙ ap by z)

@@ -1,5 +1,6 @@
 -- Laws of plan files, in terms of their lines and of the rows that were written. Assumes nothing.
 use Rattle.std.specs.Prelude.{◌≡◌, ℕ, ◌+◌, ◌<◌, ◌≤◌, ◌≢◌, ◌⊎◌, List, [], ◌∷◌, ◌++◌, length, take, drop, Ok, Err, codes, Result, MatchResult, slice_index_or}
+use Rattle.std.specs.List.{AllByRecursion}
 use Rattle.analysis.specs.declared.Answer.{Answer}
 use Rattle.analysis.specs.Judge.{InTime}
 use Rattle.analysis.specs.Ranks.{Claim}
@@ -103,8 +104,7 @@ plan_text clock es = clock_text clock ++ rows_text es
 
 -- each number fits a field
 abbrev pub AllFit : List ℕ → Type 0
-AllFit [] = Unit {0}
-AllFit (n ∷ ns) = (n ≤ 4_294_967_295) × AllFit ns
+AllFit = AllByRecursion (λ n. n ≤ 4_294_967_295)
 
 abbrev pub jobs_numbers : Jobs → List ℕ
 jobs_numbers (Left k) = k.job ∷ k.period ∷ []

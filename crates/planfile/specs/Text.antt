@@ -1,5 +1,7 @@
 -- Lines, fields, words and numbers of a text, which is a list of bytes. Assumes nothing.
-use Rattle.std.specs.Prelude.{ℕ, ◌+◌, ◌-◌, ◌*◌, Bool, true, false, cond, ◌&&◌, List, [], ◌∷◌, length, take, codes, ◌==◌, nat_le, nat_lt, slice_index, slice_index_or}
+use Rattle.std.specs.Prelude.{ℕ, ◌+◌, ◌-◌, ◌*◌, Bool, true, cond, ◌&&◌, List, [], ◌∷◌, length, take, codes, ◌==◌, nat_le, nat_lt, slice_index, slice_index_or}
+use Rattle.std.specs.Cmp.Lexicographic.{pointwise}
+use Rattle.std.specs.List.{slice_split}
 use Rattle.planfile.specs.declared.word.Word.{Word}
 use Rattle.planfile.specs.declared.word.Word.TheVariants.{Clock, Row, Every, Heavy, Other}
 
@@ -11,15 +13,9 @@ newline = 10
 abbrev pub tab : ℕ
 tab = 9
 
--- one byte more at the front of the first part
-abbrev pub onto_first : ℕ → List (List ℕ) → List (List ℕ)
-onto_first b [] = (b ∷ []) ∷ []
-onto_first b (part ∷ parts) = (b ∷ part) ∷ parts
-
 -- the parts of a text before, between and behind the bytes that part it
 abbrev pub parted_by : ℕ → List ℕ → List (List ℕ)
-parted_by separator [] = [] ∷ []
-parted_by separator (b ∷ bs) = cond (b == separator) ([] ∷ parted_by separator bs) (onto_first b (parted_by separator bs))
+parted_by separator = slice_split (λ b. b == separator)
 
 -- the lines of a text: each is ended by a newline, and what follows the last newline is none
 abbrev pub lines : List ℕ → List (List ℕ)
@@ -37,20 +33,13 @@ ended text = slice_index text (length text - 1) == newline
 abbrev pub field : ℕ → List (List ℕ) → List ℕ
 field k fs = slice_index_or fs (k - 1) []
 
--- both are the same bytes
-abbrev pub same_bytes : List ℕ → List ℕ → Bool
-same_bytes [] [] = true
-same_bytes [] (y ∷ ys) = false
-same_bytes (x ∷ xs) [] = false
-same_bytes (x ∷ xs) (y ∷ ys) = x == y && same_bytes xs ys
-
 -- which word a field is
 abbrev pub word_of : List ℕ → Word
 word_of f =
-    cond (same_bytes f (codes "clock")) Clock
-    (cond (same_bytes f (codes "row")) Row
-    (cond (same_bytes f (codes "every")) Every
-    (cond (same_bytes f (codes "heavy")) Heavy Other)))
+    cond (pointwise ◌==◌ f (codes "clock")) Clock
+    (cond (pointwise ◌==◌ f (codes "row")) Row
+    (cond (pointwise ◌==◌ f (codes "every")) Every
+    (cond (pointwise ◌==◌ f (codes "heavy")) Heavy Other)))
 
 -- a byte is one of the digits 0 to 9
 abbrev pub is_digit : ℕ → Bool

@@ -46,6 +46,7 @@ pub(crate) struct Blame {
     late: u32,
 }
 
+// By hand, here and below: a derived `From` does not say what it gives.
 impl From<KindRefusal> for LineFault {
     ghost from_gives = { λ e r. r ≡ OfKind e };
 

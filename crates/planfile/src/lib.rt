@@ -24,6 +24,7 @@ pub const LONGEST_FILE: usize = 4096;
 pub const REPORT_MEMORY: usize = 512;
 
 // The figures of a plan file of three rows follow from the definitions.
+#[tactic(auto, using(crate::proofs::PlanFigures::plan_figures))]
 pub fn plan_figures_hold() -> bool
     ensures { (result ≡ true) × (PlanFigures) }
 {

@@ -1,5 +1,5 @@
 // Loading a plan file.
-ghost use Rattle.std.specs.Prelude.{◌≡◌, ◌≤◌, true, List, [], length, IfOk, Ok, Err, MatchResult};
+ghost use Rattle.std.specs.Prelude.{◌≡◌, ◌+◌, ◌<◌, ◌≤◌, true, List, [], length, IfOk, Ok, Err, MatchResult};
 ghost use Rattle.analysis.specs.Ranks.{Claim};
 ghost use Rattle.table.specs.Agreement.{AgreesWith};
 ghost use Rattle.planfile.specs.Text.{ended};
@@ -22,13 +22,18 @@ fn check_file(file: &[u8], room: usize) -> Result<(), Fault>
     if room < REPORT_MEMORY {
         return Err(Fault::ReportMemory);
     }
-    if LONGEST_FILE < file.len() {
+    if LONGEST_FILE < file.len() || !file.ends_with(b"\n") {
         return Err(Fault::File);
     }
-    match file.last() {
-        Some(b'\n') => Ok(()),
-        _ => Err(Fault::File),
-    }
+    Ok(())
+}
+
+// The number of the row line of this index. Line 1 is the clock line.
+fn number_of_row(index: usize) -> u32
+    requires { index < 4096 }
+    ensures { result ≡ index + 2 }
+{
+    index as u32 + 2
 }
 
 // Takes the rows of a file into a table, in the order of the file.
@@ -42,13 +47,14 @@ fn take_lines(file: &[u8], table: &mut Table<RowKind>) -> Result<(), Fault>
     let first = reader.next().unwrap();
     let clock = read_clock(&first).map_err(|fault| Fault::Line(1, fault))?;
     for (index, line) in reader.enumerate() {
-        let number = index as u32 + 2;
+        let number = number_of_row(index);
         take_row(&line, clock, table).map_err(|fault| Fault::Line(number, fault))?;
     }
     Ok(())
 }
 
 // Reads a plan file, and writes its report at the start of the memory lent for it. The answer is the length of the report.
+#[tactic(auto, using(crate::proofs::Loads::by_file, crate::proofs::Loads::by_lines, crate::proofs::FileOrder::in_file_order, crate::proofs::OneAnswer::one_answer, crate::proofs::RoundTrip::round_trip))]
 pub fn load(file: &[u8], report: &mut [u8]) -> Result<usize, Fault>
     ensures loaded { Loaded file.now report.old result report.new }
     ensures in_file_order { InFileOrder file.now report.old result report.new }
@@ -64,6 +70,7 @@ pub fn load(file: &[u8], report: &mut [u8]) -> Result<usize, Fault>
 }
 
 // Writes the text that answers a plan file, which is its report or the line of its refusal, and answers the length of the text.
+#[tactic(auto, using(crate::proofs::Answering::answered_ok, crate::proofs::Answering::answered_err, crate::proofs::Answering::answer_within))]
 pub fn answer(file: &[u8], out: &mut [u8]) -> Result<usize, Fault>
     ensures text { AnsweredText file.now out.old result out.new }
     ensures within { IfOk result (λ n. n ≤ length out.old) }

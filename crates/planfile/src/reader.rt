@@ -7,7 +7,7 @@ mod reading;
 // The most fields of a line that are kept.
 const MOST_FIELDS: usize = 20;
 
-// A line of the file. It is seen as all its fields, of which the first twenty are kept, and the others counted.
+// A line of the file. It is seen as all its fields, of which the first twenty are kept. The count goes beyond those.
 #[derive(Drop)]
 pub(crate) struct Line<'a> {
     text: &'a [u8],
@@ -30,7 +30,7 @@ impl<'a> Model for Line<'a> {
 #[derive(Clone, Copy)]
 enum State {
     // in the field of this index, which began at this place
-    Field(usize, usize),
+    Field { index: usize, start: usize },
     // behind so many fields
     Ended(usize),
 }

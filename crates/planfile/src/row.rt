@@ -35,6 +35,7 @@ fn read_numbers<const N: usize>(line: &Line, start: usize) -> Result<[u32; N], L
     requires { Keeps line.now start N }
     ensures { Reads (number_checks line.now start N) (numbers_in line.now start N) result }
 {
+    // A loop, since `try_from_fn` does not say of a fault that it is the first.
     let mut numbers = [0; N];
     for (i, number) in numbers.iter_mut().enumerate() {
         *number = number_at(line, start + i)?;
@@ -44,10 +45,9 @@ fn read_numbers<const N: usize>(line: &Line, start: usize) -> Result<[u32; N], L
 
 // The factor that a clock line gives.
 pub(crate) fn read_clock(line: &Line) -> Result<Factor, LineFault>
-    requires { 0 < length line.now }
     ensures { Reads (clock_checks line.now) (clock_of line.now) result }
 {
-    let Word::Clock = read_word(line.field(1)) else {
+    let Word::Clock = read_word(line.first()) else {
         return Err(LineFault::Word(1));
     };
     if line.count() != 3 {
@@ -59,10 +59,9 @@ pub(crate) fn read_clock(line: &Line) -> Result<Factor, LineFault>
 
 // Checks the words of a row line and how many fields it has. The answer is the word that names the kind.
 fn check_words(line: &Line) -> Result<Word, LineFault>
-    requires { 0 < length line.now }
     ensures { Reads (word_checks line.now) (word_of (field 16 line.now)) result }
 {
-    let Word::Row = read_word(line.field(1)) else {
+    let Word::Row = read_word(line.first()) else {
         return Err(LineFault::Word(1));
     };
     if line.count() < 16 {
@@ -117,7 +116,6 @@ fn read_jobs(line: &Line, kind: Word) -> Result<Jobs, LineFault>
 
 // The row of a row line, with its kind but for the clock.
 fn read_row(line: &Line) -> Result<Task<Delayed<Jobs>>, LineFault>
-    requires { 0 < length line.now }
     ensures { Reads (line_checks line.now) (task_of line.now) result }
 {
     let word = check_words(line)?;
@@ -133,8 +131,7 @@ pub(crate) fn take_row(
     clock: Factor,
     table: &mut Table<RowKind>,
 ) -> Result<(), LineFault>
-    requires some { 0 < length line.now }
-    requires agrees { (rows : List Claim) × AgreesWith row_demand (taking rows) table.old }
+    requires { (rows : List Claim) × AgreesWith row_demand (taking rows) table.old }
     ensures { (rows : List Claim) → AgreesWith row_demand (taking rows) table.old → MatchResult result (λ _. RowTaken clock rows line.now × AgreesWith row_demand (taking (claim_in clock line.now ∷ rows)) table.new) (λ f. RowRefused clock rows line.now (line_blame f)) }
 {
     let Task { row, kind } = read_row(line)?;

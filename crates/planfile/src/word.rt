@@ -2,7 +2,7 @@
 ghost use Rattle.std.specs.Prelude.{◌≡◌};
 ghost use Rattle.planfile.specs.Text.{word_of};
 
-// What a field can say that is no number.
+// What a field can say that is no number. `Other` is no `None`: the matches on words take it as one word more.
 #[derive(Clone, Copy)]
 pub(crate) enum Word {
     Clock,

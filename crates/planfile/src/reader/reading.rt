@@ -34,15 +34,18 @@ impl<'a> Reader<'a> {
     {
         let text = self.text;
         match (self.state, byte) {
-            (State::Field(index, start), b'\t') => {
+            (State::Field { index, start }, b'\t') => {
                 self.keep(&text[start..at]);
-                self.state = State::Field(index + 1, at + 1);
+                self.state = State::Field {
+                    index: index + 1,
+                    start: at + 1,
+                };
             }
-            (State::Field(index, start), b'\n') => {
+            (State::Field { index, start }, b'\n') => {
                 self.keep(&text[start..at]);
                 self.state = State::Ended(index + 1);
             }
-            (State::Field(_, _), _) => {}
+            (State::Field { .. }, _) => {}
             (State::Ended(_), _) => {}
         }
     }
@@ -61,7 +64,7 @@ impl<'a> Iterator for Reader<'a> {
 
     fn next(&mut self) -> Option<Line<'a>> {
         let text = self.text;
-        self.state = State::Field(0, 0);
+        self.state = State::Field { index: 0, start: 0 };
         self.kept.clear();
         for (at, byte) in text.iter().enumerate() {
             self.step(at, *byte);
@@ -82,6 +85,13 @@ impl<'a> Line<'a> {
         ensures { result ≡ length self.now }
     {
         self.count
+    }
+
+    // The first field. There is always one.
+    pub(crate) fn first(&self) -> &'a [u8]
+        ensures { result.now ≡ field 1 self.now }
+    {
+        self.kept[0]
     }
 
     // The field with this number, from 1.

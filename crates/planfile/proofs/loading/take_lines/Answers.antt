@@ -9,8 +9,8 @@ use Rattle.planfile.specs.declared.fault.Fault.TheVariants.{Line}
 use Rattle.planfile.specs.Fault.{blame, at_line, line_blame}
 use Rattle.planfile.specs.Laws.{row_lines}
 use Rattle.planfile.specs.Reading.{claim_in, LinesRead}
-use Rattle.planfile.specs.Text.{lines, fields, tab}
-use Rattle.planfile.proofs.Parted.{some_part, ended_line}
+use Rattle.planfile.specs.Text.{lines, fields}
+use Rattle.planfile.proofs.Parted.{ended_line}
 use Rattle.planfile.proofs.LinesRead.{first_line, some_first, few_rows, row_road, row_count, line_at, clock_taken, row_refused, row_taken, no_lines, value_of_line, fault_of_line}
 use Rattle.planfile.proofs.loading.take_lines.Goals as goal
 use Rattle.planfile.proofs.loading.take_lines.Goals.{In-Some}
@@ -20,11 +20,6 @@ unwrap-first-requires c =
     let lines_are = ap (λ text. map fields (lines text)) c.new-reader.ensures in
     some_first lines_left c.new-reader.result c.next.new.self c.next.result c.next.ensures.steps
     (omega (arith, ap length lines_are, length-map (lines c.args.file.now) fields, ended_line c.args.file.now c.requires.ended))
-
-pub read_clock-requires : goal.read_clock-requires
-read_clock-requires c =
-    let first = first_line c.args.file.now c.new-reader.result c.next.new.self _ _ c.new-reader.ensures c.next.ensures.steps c.unwrap-first.ensures in
-    rw first.0 (some_part tab (get_or (lines c.args.file.now) 0 []))
 
 pub loop-index-init-derived : goal.loop-index-init-derived
 loop-index-init-derived c =
@@ -45,21 +40,10 @@ here c =
     line_at (row_lines c.args.file.now) (length c.loop-index.yielded) c.in-Some.index c.in-Some.line
     (YieldsList-turn road c.loop-index.yielded _ c.loop-index.yielded_by _ c.next-in-loop-index.new.self (c.in-Some.index, c.in-Some.line) c.in-Some.is c.next-in-loop-index.ensures.steps)
 
-pub overflow_cast-number : goal.overflow_cast-number
-overflow_cast-number c =
-    let h = here (goal.at.overflow_cast-number c).In-Some in
+pub number_of_row-number-requires : goal.number_of_row-number-requires
+number_of_row-number-requires c =
+    let h = here (goal.at.number_of_row-number-requires c).In-Some in
     omega (arith, h.0, h.1, few_rows c.args.file.now)
-
-pub overflow_add-number : goal.overflow_add-number
-overflow_add-number c =
-    let h = here (goal.at.overflow_add-number c).In-Some in
-    omega (arith, h.0, h.1, few_rows c.args.file.now)
-
-pub take_row-requires : goal.take_row-requires
-take_row-requires c =
-    let h = here (goal.at.take_row-requires c).In-Some in
-    let inv = c.loop-index.invariant in
-    record { some = rw h.2 (some_part tab (get_or (row_lines c.args.file.now) (length c.loop-index.yielded) [])); agrees = (inv.0, inv.1) }
 
 pub loop-index-preserved : goal.loop-index-preserved
 loop-index-preserved c =
@@ -80,9 +64,9 @@ returns-in_err-map_err c =
     let h = here (goal.at.returns-in_err-map_err c).In-Some in
     let inv = c.loop-index.invariant in
     let k = length c.loop-index.yielded in
-    let fault = fault_of_line c.take_row.result c.map_err-in-loop-index.result _ c.map_err-in-loop-index.ensures.cases (Line (c.in-Some.index + 2)) (λ e d t. search rules) c.in_err-map_err.field-0.0 c.in_err-map_err.was in
+    let fault = fault_of_line c.take_row.result c.map_err-in-loop-index.result _ c.map_err-in-loop-index.ensures.cases (Line c.number_of_row-number.result) (λ e d t. search rules) c.in_err-map_err.field-0.0 c.in_err-map_err.was in
     let refused = MatchResult-at_err _ _ fault.0 fault.1 (c.take_row.ensures inv.0 inv.1) in
-    let said = ap blame fault.2 ∙ ap (λ n. at_line (n + 2) (line_blame fault.0)) h.1 in
+    let said = ap blame fault.2 ∙ ap (λ n. at_line n (line_blame fault.0)) (c.number_of_row-number.ensures ∙ ap (λ n. n + 2) h.1) in
     rw (p.1, p.2)
     (subst (λ b. LinesRead c.args.file.now (Err b)) (sym said)
     (inv.2 (Err (at_line (k + 2) (line_blame fault.0)))

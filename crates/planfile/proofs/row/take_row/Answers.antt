@@ -19,8 +19,8 @@ returns-in_err-hold c rows agrees =
 
 pub unwrap-requires : goal.unwrap-requires
 unwrap-requires c =
-    not_refused row_demand c.args.table.now c.hold.new.self c.keep.new.self c.requires.agrees.0
-    (held_claim c.args.clock c.in_ok-row.field-0) c.in_ok-hold.hold c.keep.result c.in_ok-hold.ensures.account c.keep.ensures.account c.requires.agrees.1
+    not_refused row_demand c.args.table.now c.hold.new.self c.keep.new.self c.requires.0
+    (held_claim c.args.clock c.in_ok-row.field-0) c.in_ok-hold.hold c.keep.result c.in_ok-hold.ensures.account c.keep.ensures.account c.requires.1
 
 pub returns : goal.returns
 returns c rows agrees =
