@@ -4,6 +4,7 @@ use mathlib.Core.Path.{subst₃}
 use native.Mathlib.Decide.{ℕ_discrete}
 use lib.Seq.{take-set-lt}
 use Rattle.std.proofs.lemmas.List.{length-set, length-take, get_or-set_same, get_or-set_other, get_or-take, set-get_or}
+use Rattle.std.proofs.lemmas.Bool.{and_from, or_left}
 use Rattle.demand.specs.Demand.{Demand, Lawful}
 use Rattle.demand.specs.Refusals.{first}
 use Rattle.analysis.specs.declared.Task.{Task}
@@ -13,7 +14,7 @@ use Rattle.table.specs.declared.Hold.{Hold}
 use Rattle.table.specs.declared.State.{State}
 use Rattle.table.specs.declared.State.TheVariants.{Free, Held, Kept}
 use Rattle.table.specs.declared.Table.{Table}
-use Rattle.table.specs.Account.{Account, Bears, number_of, hold_checks, bears, unspent, spent, without, AllInTime, with_row, with_kept, with_released, with_withdrawn}
+use Rattle.table.specs.Account.{Account, Bears, number_of, hold_checks, unspent, spent, without, AllInTime, with_row, with_kept, with_released, with_withdrawn}
 use Rattle.table.specs.Agreement.{NoneNamed, Sound, StandsAt, Agrees, AgreesWith}
 use Rattle.table.specs.Memory.{PutAt}
 use Rattle.table.specs.Places.{At, HeldHere}
@@ -46,11 +47,9 @@ without_reordered n (swapped {a = a} {b = b} {xs = xs}) = go (eqb (number_of a) 
     go false false zs = swapped
 without_reordered n (through r q) = through (without_reordered n r) (without_reordered n q)
 
-bears_it : (table n : ℕ) (h : Bears) → h.table ≡ table → h.row ≡ n → bears table n h ≡ true
-bears_it table n h t r = ap (λ b. b && eqb h.row n) (eq-eqb h.table table t) ∙ eq-eqb h.row n r
-
 unspent_new : (table n : ℕ) (hs : List Bears) → unspent table n (record { table = table; row = n } ∷ hs) ≡ true
-unspent_new table n hs = ap (λ b. b || unspent table n hs) (bears_it table n (record { table = table; row = n }) refl refl)
+unspent_new table n hs =
+    or_left (eqb table table && eqb n n) (unspent table n hs) (and_from (eqb table table) (eqb n n) (eq-eqb table table refl) (eq-eqb n n refl))
 
 unspent_more : (table m n : ℕ) → m ≢ n → (hs : List Bears) → unspent table m (record { table = table; row = n } ∷ hs) ≡ unspent table m hs
 unspent_more table m n ne hs = ap (λ b. b || unspent table m hs) (bears_other table m n (record { table = table; row = n }) refl ne)
