@@ -5,11 +5,11 @@ use native.Mathlib.Decide.{ℕ_discrete}
 use Rattle.std.proofs.lemmas.List.{get_or_append_left, get_or_push, length-append, map-append}
 use Rattle.demand.specs.Demand.{Demand}
 use Rattle.analysis.specs.declared.Answer.{Answer}
-use Rattle.analysis.specs.declared.Higher.{Higher}
+use Rattle.analysis.specs.declared.higher.Higher.{Higher}
 use Rattle.analysis.specs.declared.Rank.{Rank}
 use Rattle.analysis.specs.declared.Row.{Row}
 use Rattle.analysis.specs.declared.Task.{Task}
-use Rattle.analysis.specs.Candidates.{candidate, demand_of, above_of, need_with, claim_of}
+use Rattle.analysis.specs.Candidates.{above_of, need_with, claim_of}
 use Rattle.analysis.specs.Cover.{Above, interference}
 use Rattle.analysis.specs.Judge.{RankAnswered, RowAnswered, Answered, no_answer, bounds_of, vectors_of}
 use Rattle.analysis.specs.Locks.{ceiling, reaches, section, longest_of, longest, blocking}
@@ -65,8 +65,8 @@ module _ {K : Type 0} (demand : K → Demand) (places : List (Option (Task K))) 
   abbrev pub claim : Rank → Claim
   claim = claim_of demand places newcomer
 
-  abbrev pub above : Higher → Above
-  above = above_of demand places newcomer
+  abbrev pub above : Higher K → Above
+  above = above_of demand
 
   pub rows_of_claims : (rs : List Rank) → rows (map claim rs) ≡ ranked_rows rs
   rows_of_claims [] = refl
@@ -83,7 +83,7 @@ module _ {K : Type 0} (demand : K → Demand) (places : List (Option (Task K))) 
   length_loads all (r ∷ rs) = ap suc (length_loads all rs)
 
   -- the first k rows are answered, and seen as the rows below meet them
-  pub record SoFar (ls : List Load) (k : ℕ) (answers : List Answer) (higher : List Higher) : Type 0 where
+  pub record SoFar (ls : List Load) (k : ℕ) (answers : List Answer) (higher : List (Higher K)) : Type 0 where
     pub count : length answers ≡ k
     pub above_count : length higher ≡ k
     pub seen : map above higher ≡ take k (aboves ls (bounds_of answers))
@@ -105,17 +105,17 @@ module _ {K : Type 0} (demand : K → Demand) (places : List (Option (Task K))) 
         (ap₂ (λ (all below : List Row). blocking all (get_or rs k no_rank).row below) (rows_of_claims rs) (ap (λ (n : ℕ). ranked_rows (drop n rs)) (sym (add-one k)))
         ∙ sym is_blocked)
 
-    module _ (answers : List Answer) (higher : List Higher) (so_far : SoFar all_loads k answers higher) where
+    module _ (answers : List Answer) (higher : List (Higher K)) (so_far : SoFar all_loads k answers higher) where
       -- what holds of the need that the code sees holds of the row's
-      settled : (P : (ℕ → ℕ → ℕ) → ℕ → ℕ → Type 0) → P (need_with demand places newcomer higher ((claim (get_or rs k no_rank)).demand.own + ((get_or rs k no_rank).row.suspension + blocked))) (get_or rs k no_rank).row.deadline (2 ^ length higher) → P ((system all_loads).need k (bounds_of answers)) ((system all_loads).deadline k) ((system all_loads).vectors k)
+      settled : (P : (ℕ → ℕ → ℕ) → ℕ → ℕ → Type 0) → P (need_with demand higher ((claim (get_or rs k no_rank)).demand.own + ((get_or rs k no_rank).row.suspension + blocked))) (get_or rs k no_rank).row.deadline (2 ^ length higher) → P ((system all_loads).need k (bounds_of answers)) ((system all_loads).deadline k) ((system all_loads).vectors k)
       settled P p =
           let alone : (claim (get_or rs k no_rank)).demand.own + ((get_or rs k no_rank).row.suspension + blocked) ≡ (at all_loads k).claim.demand.own + wait (at all_loads k) = sym (ap (λ (l : Load). l.claim.demand.own + wait l) here) in
-          let needs : need_with demand places newcomer higher ((claim (get_or rs k no_rank)).demand.own + ((get_or rs k no_rank).row.suspension + blocked)) ≡ (system all_loads).need k (bounds_of answers) =
+          let needs : need_with demand higher ((claim (get_or rs k no_rank)).demand.own + ((get_or rs k no_rank).row.suspension + blocked)) ≡ (system all_loads).need k (bounds_of answers) =
           ap₂ needing alone so_far.seen
           in
           subst₃ P needs (sym (ap (λ (l : Load). l.claim.row.deadline) here)) (ap (λ (n : ℕ). 2 ^ n) so_far.above_count) p
 
-      pub first_late : NoCover (need_with demand places newcomer higher ((claim (get_or rs k no_rank)).demand.own + ((get_or rs k no_rank).row.suspension + blocked))) (get_or rs k no_rank).row.deadline (2 ^ length higher) → FirstLate (system all_loads) k
+      pub first_late : NoCover (need_with demand higher ((claim (get_or rs k no_rank)).demand.own + ((get_or rs k no_rank).row.suspension + blocked))) (get_or rs k no_rank).row.deadline (2 ^ length higher) → FirstLate (system all_loads) k
       first_late none =
           record {
             R = bounds_of answers;
@@ -128,7 +128,7 @@ module _ {K : Type 0} (demand : K → Demand) (places : List (Option (Task K))) 
       pub late_number : (get_or rs k no_rank).row.number ≡ (at all_loads k).claim.row.number
       late_number = sym (ap (λ (l : Load). l.claim.row.number) here)
 
-      module _ (a : Answer) (h : Higher) (answered : RankAnswered demand places newcomer higher (get_or rs k no_rank) blocked a h) where
+      module _ (a : Answer) (h : Higher K) (answered : RankAnswered demand places newcomer higher (get_or rs k no_rank) blocked a h) where
         abbrev more : List Answer
         more = answers ++ a ∷ []
 
@@ -167,7 +167,7 @@ module _ {K : Type 0} (demand : K → Demand) (places : List (Option (Task K))) 
 
         met_here : above h ≡ met (at all_loads k) (bounds_of more k)
         met_here =
-            same_above answered.wait answered.jitter (ap (λ (n : ℕ). (demand_of demand (candidate places newcomer n)).work) answered.place)
+            same_above answered.wait answered.jitter (ap (λ (d : Demand). d.work) answered.kind)
             ∙ ap₂ met (sym here) (ap (λ (x : Answer). x.bound) (sym new_answer))
 
         seen_more : map above (higher ++ h ∷ []) ≡ take (k + 1) (aboves all_loads (bounds_of more))
@@ -193,5 +193,5 @@ module _ {K : Type 0} (demand : K → Demand) (places : List (Option (Task K))) 
             }
 
   -- all rows are answered
-  pub all_answered : (ls : List Load) (answers : List Answer) (higher : List Higher) → SoFar ls (length ls) answers higher → Answered ls answers
+  pub all_answered : (ls : List Load) (answers : List Answer) (higher : List (Higher K)) → SoFar ls (length ls) answers higher → Answered ls answers
   all_answered ls answers higher s = record { count = s.count; rows = s.rows; bounds = s.bounds }

@@ -9,7 +9,6 @@ pub mod Removal
 pub mod Summed
 pub mod Jumps
 pub mod Rising
-pub mod Inserted
 pub mod Ranked
 pub mod Judging
 pub mod Order

@@ -1,9 +1,8 @@
 -- The covering sum, added up from the row just above to the highest. Assumes nothing.
-use Rattle.std.proofs.Common.{◌≡◌, ℕ, ◌+◌, ◌-◌, ◌/◌, ◌^◌, ◌<◌, min, cond, List, [], ◌∷◌, ◌++◌, map, length, sym, ap, ◌∙◌, subst, append_assoc, div-one, arith}
-use Rattle.std.proofs.lemmas.List.{length-append, append-nil}
+use Rattle.std.proofs.Common.{◌≡◌, ℕ, ◌+◌, ◌-◌, ◌/◌, ◌^◌, min, cond, List, [], ◌∷◌, ◌++◌, map, length, sym, ap, ◌∙◌, subst, append_assoc, arith}
+use Rattle.std.proofs.lemmas.List.{length-append}
 use Rattle.std.proofs.lemmas.Nat.{shr-shr}
 use Rattle.demand.specs.Demand.{window}
-use Rattle.analysis.specs.declared.Higher.{Higher}
 use Rattle.analysis.specs.Cover.{Above, chosen, waits, stretched, interference}
 
 -- what a u64 holds of a sum
@@ -24,35 +23,22 @@ summed_more a rest v t alone w n x m s e f =
     let work = ap a.work same in
     record { waited = omega arith; needed = omega arith }
 
-module _ (above : Higher → Above) (higher : List Higher) (v t alone : ℕ) where
+module _ {H : Type 0} (above : H → Above) (higher : List H) (v t alone : ℕ) where
   -- of the higher rows these are left, and the sums are over those behind them
-  pub record Behind (left : List Higher) (w n : ℕ) : Type 0 where
-    pub taken : List Higher
+  pub record Behind (left : List H) (w n : ℕ) : Type 0 where
+    pub taken : List H
     pub parts : higher ≡ left ++ taken
     pub sums : Summed (map above taken) (v / 2 ^ length left) t alone w n
 
-  pub none_taken : (left : List Higher) → left ≡ higher → alone < 2 ^ 64 → Behind left 0 alone
-  none_taken left e fits =
-      record { taken = []; parts = sym (append-nil left ∙ e); sums = record { waited = omega arith; needed = omega arith } }
-
   -- the last of those that are left is taken, the row of this index
-  pub behind_more : (left fewer : List Higher) (x : Higher) (i w n y m : ℕ) → left ≡ fewer ++ x ∷ [] → i ≡ length fewer → Behind left w n → y ≡ held (w + cond (chosen (v / 2 ^ i)) (above x).wait 0) → m ≡ held (n + (above x).work (window ((t + y) + cond (chosen (v / 2 ^ i)) 0 (above x).jitter))) → Behind fewer y m
+  pub behind_more : (left fewer : List H) (x : H) (i w n y m : ℕ) → left ≡ fewer ++ x ∷ [] → i ≡ length fewer → Behind left w n → y ≡ held (w + cond (chosen (v / 2 ^ i)) (above x).wait 0) → m ≡ held (n + (above x).work (window ((t + y) + cond (chosen (v / 2 ^ i)) 0 (above x).jitter))) → Behind fewer y m
   behind_more left fewer x i w n y m e at b f g =
       let one_less : length left ≡ i + 1 = omega (arith, ap length e ∙ length-append fewer (x ∷ [])) in
       let halved : v / 2 ^ length left ≡ v / 2 ^ i / 2 = ap (λ (k : ℕ). v / 2 ^ k) one_less ∙ sym (shr-shr v i 1) in
       record {
         taken = x ∷ b.taken;
-        parts = b.parts ∙ ap (λ (xs : List Higher). xs ++ b.taken) e ∙ append_assoc fewer (x ∷ []) b.taken;
+        parts = b.parts ∙ ap (λ (xs : List H). xs ++ b.taken) e ∙ append_assoc fewer (x ∷ []) b.taken;
         sums =
             subst (λ (k : ℕ). Summed (map above (x ∷ b.taken)) (v / 2 ^ k) t alone y m) at
             (summed_more (above x) (map above b.taken) (v / 2 ^ i) t alone w n y m (subst (λ (u : ℕ). Summed (map above b.taken) u t alone w n) halved b.sums) f g);
       }
-
-  -- where none is left, the sums are over all
-  pub all_taken : (left : List Higher) (w n : ℕ) → left ≡ [] → Behind left w n → n ≡ held (alone + interference (map above higher) v t)
-  all_taken left w n e b =
-      let whole : higher ≡ b.taken = b.parts ∙ ap (λ (xs : List Higher). xs ++ b.taken) e in
-      let vector : v / 2 ^ length left ≡ v = ap (λ (xs : List Higher). v / 2 ^ length xs) e ∙ div-one v in
-      b.sums.needed
-      ∙ ap (λ (u : ℕ). held (alone + interference (map above b.taken) u t)) vector
-      ∙ ap (λ (xs : List Higher). held (alone + interference (map above xs) v t)) (sym whole)

@@ -1,14 +1,15 @@
 -- What a judgement of ranked rows says of the rows that are judged together. Assumes nothing.
-use Rattle.std.proofs.Common.{◌≡◌, ◌≤◌, List, [], ◌∷◌, ◌++◌, map, length, Ok, Err, Option, Result, sym, ap, ◌∙◌, subst, arith}
+use Rattle.std.proofs.Common.{◌≡◌, ℕ, ◌≤◌, List, [], ◌∷◌, ◌++◌, map, length, Ok, Err, Option, Result, sym, ap, ◌∙◌, subst, arith}
 use lib.ListN.{length-map}
 use Rattle.demand.specs.Demand.{Demand, Lawful}
 use Rattle.analysis.specs.declared.Task.{Task}
+use Rattle.analysis.specs.declared.Answer.{Answer}
 use Rattle.analysis.specs.declared.Rank.{Rank}
 use Rattle.analysis.specs.declared.answers.Answers.{Answers}
 use Rattle.analysis.specs.declared.judgement.JudgeRefusal.{JudgeRefusal}
 use Rattle.analysis.specs.declared.judgement.JudgeRefusal.TheVariants.{TooMany, Late}
 use Rattle.analysis.specs.Candidates.{claims, claim_of, RanksAll}
-use Rattle.analysis.specs.Judge.{Answered, LateRow, RanksJudged, Judged, answers_of}
+use Rattle.analysis.specs.Judge.{Answered, LateRow, InTime, SomeLate, RanksJudged, Judged, answers_of}
 use Rattle.analysis.specs.Plans.{LateExactlyWhenNoPlan}
 use Rattle.analysis.specs.Ranks.{Claim, ranked, loads, rows, system}
 use Rattle.analysis.specs.Removal.{RemovalKeepsInTime}
@@ -41,12 +42,18 @@ module _ {K : Type 0} (demand : K → Demand) (lawful : (k : K) → Lawful (dema
         let count : length judged ≡ length ranks = sym (length_ranked judged) ∙ sym (ap length all) ∙ length-map ranks (claim_of demand places newcomer) in
         omega arith
 
+    pub in_time : (answers : List Answer) → Answered (loads (map (claim_of demand places newcomer) ranks)) answers → InTime judged answers
+    in_time answers a =
+        let answered : Answered (loads (ranked judged)) answers = subst (λ (cs : List Claim). Answered (loads cs) answers) all a in
+        record { few = few; answered = answered; best_plan = best_plan (system (loads (ranked judged))) needs_grow _ _ answered.bounds }
+
+    pub some_late : (n : ℕ) → LateRow (loads (map (claim_of demand places newcomer) ranks)) n → SomeLate judged n
+    some_late n l =
+        let first : LateRow (loads (ranked judged)) n = subst (λ (cs : List Claim). LateRow (loads cs) n) all l in
+        record { few = few; first = first; no_plan = late_no_plan (system (loads (ranked judged))) needs_grow first.0 first.1 }
+
     -- what is answered for the ranks is the judgement
     pub verdict : (r : Result Answers JudgeRefusal) → RanksJudged (map (claim_of demand places newcomer) ranks) r → Judged judged r
-    verdict (Ok a) answers =
-        let answered : Answered (loads (ranked judged)) (answers_of a) = subst (λ (cs : List Claim). Answered (loads cs) (answers_of a)) all answers in
-        record { few = few; answered = answered; best_plan = best_plan (system (loads (ranked judged))) needs_grow _ _ answered.bounds }
+    verdict (Ok a) answered = in_time (answers_of a) answered
     verdict (Err TooMany) never = absurd never
-    verdict (Err (Late n)) late =
-        let first : LateRow (loads (ranked judged)) n = subst (λ (cs : List Claim). LateRow (loads cs) n) all late in
-        record { few = few; first = first; no_plan = late_no_plan (system (loads (ranked judged))) needs_grow first.0 first.1 }
+    verdict (Err (Late n)) late = some_late n late

@@ -1,8 +1,9 @@
 -- The tasks that are judged together, by their places. Assumes nothing.
 use Rattle.std.specs.Prelude.{◌≡◌, ℕ, ◌+◌, cond, List, [], ◌∷◌, ◌++◌, map, length, Some, None, Option, nat_lt, slice_index_or}
+use Rattle.std.specs.Borrow.{Bor}
 use Rattle.demand.specs.Demand.{Demand}
 use Rattle.analysis.specs.declared.Task.{Task}
-use Rattle.analysis.specs.declared.Higher.{Higher}
+use Rattle.analysis.specs.declared.higher.Higher.{Higher}
 use Rattle.analysis.specs.declared.Rank.{Rank}
 use Rattle.analysis.specs.Places.{priority_of}
 use Rattle.analysis.specs.Cover.{Above, interference}
@@ -21,14 +22,18 @@ module _ {K : Type 0} where
   demand_of demand None = idle
   demand_of demand (Some t) = demand t.kind
 
-  -- a higher row as a lower row meets it, with the work of the task at its place
-  abbrev pub above_of : (K → Demand) → List (Option (Task K)) → Option (Task K) → Higher → Above
-  above_of demand places newcomer h =
-      record { wait = h.wait; jitter = h.jitter; work = (demand_of demand (candidate places newcomer h.place)).work }
+  -- what a kind means, if there is one
+  abbrev pub kind_demand : (K → Demand) → Option (Bor K) → Demand
+  kind_demand demand None = idle
+  kind_demand demand (Some k) = demand k.now
+
+  -- a higher row as a lower row meets it, with the work of its kind
+  abbrev pub above_of : (K → Demand) → Higher K → Above
+  above_of demand h = record { wait = h.wait; jitter = h.jitter; work = (kind_demand demand h.kind).work }
 
   -- what a row needs by a window under a vector: `alone`, and the work of the rows above it
-  abbrev pub need_with : (K → Demand) → List (Option (Task K)) → Option (Task K) → List Higher → ℕ → ℕ → ℕ → ℕ
-  need_with demand places newcomer higher alone v t = alone + interference (map (above_of demand places newcomer) higher) v t
+  abbrev pub need_with : (K → Demand) → List (Higher K) → ℕ → ℕ → ℕ → ℕ
+  need_with demand higher alone v t = alone + interference (map (above_of demand) higher) v t
 
   -- the rows of these tasks, with the meanings of their kinds
   abbrev pub claims_of : (K → Demand) → List (Option (Task K)) → List Claim

@@ -5,10 +5,10 @@ use Rattle.analysis.specs.declared.Answer.{Answer}
 use Rattle.analysis.specs.declared.answers.Answers.{Answers}
 use Rattle.analysis.specs.declared.judgement.JudgeRefusal.{JudgeRefusal}
 use Rattle.analysis.specs.declared.judgement.JudgeRefusal.TheVariants.{TooMany, Late}
-use Rattle.analysis.specs.declared.Higher.{Higher}
+use Rattle.analysis.specs.declared.higher.Higher.{Higher}
 use Rattle.analysis.specs.declared.Rank.{Rank}
 use Rattle.analysis.specs.declared.Task.{Task}
-use Rattle.analysis.specs.Candidates.{candidate, demand_of, need_with}
+use Rattle.analysis.specs.Candidates.{candidate, demand_of, kind_demand, need_with}
 use Rattle.analysis.specs.Plans.{LeastCover, NoCover, Bounds, FirstLate, NoPlan, BestPlan}
 use Rattle.analysis.specs.Ranks.{Claim, Load, at, ranked, loads, system, system_of}
 
@@ -18,18 +18,18 @@ module _ {K : Type 0} (demand : K → Demand) (places : List (Option (Task K))) 
   demand_at r = demand_of demand (candidate places newcomer r.place)
 
   -- the answer for one rank under those above it, and how the rows below meet it
-  pub record RankAnswered (higher : List Higher) (r : Rank) (blocked : ℕ) (a : Answer) (h : Higher) : Type 0 where
+  pub record RankAnswered (higher : List (Higher K)) (r : Rank) (blocked : ℕ) (a : Answer) (h : Higher K) : Type 0 where
     pub number : a.number ≡ r.row.number
     pub blocking : a.blocking ≡ blocked
-    pub bound : LeastCover (need_with demand places newcomer higher ((demand_at r).own + (r.row.suspension + blocked))) r.row.deadline (2 ^ length higher) a.bound a.vector
-    pub place : h.place ≡ r.place
+    pub bound : LeastCover (need_with demand higher ((demand_at r).own + (r.row.suspension + blocked))) r.row.deadline (2 ^ length higher) a.bound a.vector
+    pub kind : kind_demand demand h.kind ≡ demand_at r
     pub wait : h.wait ≡ r.row.suspension + blocked
     pub jitter : h.jitter ≡ a.bound - (demand_at r).least
 
   -- what is answered for one rank: as above, or none where no window covers
-  abbrev pub RankJudged : List Higher → Rank → ℕ → Option (Answer × Higher) → Type 0
+  abbrev pub RankJudged : List (Higher K) → Rank → ℕ → Option (Answer × Higher K) → Type 0
   RankJudged higher r blocked None =
-      NoCover (need_with demand places newcomer higher ((demand_at r).own + (r.row.suspension + blocked))) r.row.deadline (2 ^ length higher)
+      NoCover (need_with demand higher ((demand_at r).own + (r.row.suspension + blocked))) r.row.deadline (2 ^ length higher)
   RankJudged higher r blocked (Some p) = RankAnswered higher r blocked p.0 p.1
 
 -- what stands behind the last answer

@@ -1,10 +1,9 @@
 // What a row needs by a window, under a vector. Sums beyond u64 count as its largest number.
 ghost use Rattle.std.specs.Prelude.{◌≡◌, ◌+◌, ◌-◌, ◌%◌, ◌^◌, min, if◌then◌else◌};
 ghost use Rattle.demand.specs.Demand.{window as clipped};
-ghost use Rattle.analysis.specs.Candidates.{candidate, demand_of, need_with};
+ghost use Rattle.analysis.specs.Candidates.{kind_demand, need_with};
 
-use super::candidates::Candidates;
-use super::{Higher, HigherRows};
+use super::higher::{Higher, HigherRows};
 use demand::Kind;
 
 // The waits of the rows with a 1, and all that is needed, as far as the rows were added.
@@ -14,40 +13,45 @@ struct Sum {
     need: u64,
 }
 
-impl<K: Kind> Candidates<'_, K> {
+impl Sum {
     // With one higher row more.
-    fn with_row(&self, sum: Sum, row: Higher, chosen: bool, window: u32) -> Sum
-        ensures waits { result.waits ≡ min (sum.waits + (if chosen then row.wait else 0)) (2 ^ 64 - 1) }
-        ensures need { result.need ≡ min (sum.need + (demand_of K.demand (candidate self.now.places.now self.now.newcomer.now row.place)).work (clipped ((window + result.waits) + (if chosen then 0 else row.jitter)))) (2 ^ 64 - 1) }
+    fn with_row<K: Kind>(self, row: &Higher<'_, K>, chosen: bool, window: u32) -> Sum
+        ensures waits { result.waits ≡ min (self.waits + (if chosen then row.now.wait else 0)) (2 ^ 64 - 1) }
+        ensures need { result.need ≡ min (self.need + (kind_demand K.demand row.now.kind).work (clipped ((window + result.waits) + (if chosen then 0 else row.now.jitter)))) (2 ^ 64 - 1) }
     {
         let (wait, jitter) = if chosen {
             (row.wait, 0)
         } else {
             (0, row.jitter)
         };
-        let waits = sum.waits.saturating_add(wait);
+        let waits = self.waits.saturating_add(wait);
         let stretched = u64::from(window)
             .saturating_add(waits)
             .saturating_add(jitter);
-        let work = self.work(row.place, stretched.min(u64::from(u32::MAX)) as u32);
+        let work = row.work(stretched.min(u64::from(u32::MAX)) as u32);
         Sum {
             waits,
-            need: sum.need.saturating_add(u64::from(work)),
+            need: self.need.saturating_add(u64::from(work)),
         }
     }
+}
 
-    // What a row needs by the window under the vector: `alone`, its own job and its wait, and the work of the rows above it.
-    pub(crate) fn need_by(&self, higher: &HigherRows, alone: u64, vector: u32, window: u32) -> u64
-        ensures { result ≡ min (need_with K.demand self.now.places.now self.now.newcomer.now higher.now.items alone vector window) (2 ^ 64 - 1) }
-    {
-        let mut sum = Sum {
-            waits: 0,
-            need: alone,
-        };
-        for (i, row) in higher.iter().enumerate().rev() {
-            let chosen = (vector >> i) % 2 == 1;
-            sum = self.with_row(sum, *row, chosen, window);
-        }
-        sum.need
+// What a row needs by the window under the vector: `alone`, its own job and its wait, and the work of the rows above it.
+pub(crate) fn need_by<K: Kind>(
+    higher: &HigherRows<'_, K>,
+    alone: u64,
+    vector: u32,
+    window: u32,
+) -> u64
+    ensures { result ≡ min (need_with K.demand higher.now.items alone vector window) (2 ^ 64 - 1) }
+{
+    let mut sum = Sum {
+        waits: 0,
+        need: alone,
+    };
+    for (i, row) in higher.iter().enumerate().rev() {
+        let chosen = (vector >> i) % 2 == 1;
+        sum = sum.with_row(row, chosen, window);
     }
+    sum.need
 }

@@ -1,6 +1,6 @@
 // Whether a set of tasks meets its deadlines.
-ghost use Rattle.std.specs.Prelude.{◌+◌, ◌^◌, ◌≤◌, map, length};
-ghost use Rattle.analysis.specs.Candidates.{claim_of, claims};
+ghost use Rattle.std.specs.Prelude.{◌≡◌, ◌+◌, ◌^◌, ◌≤◌, map, length};
+ghost use Rattle.analysis.specs.Candidates.{claim_of, claims, kind_demand};
 ghost use Rattle.analysis.specs.Judge.{RankJudged, RanksJudged, Judged};
 ghost use Rattle.analysis.specs.Plans.{LateExactlyWhenNoPlan};
 ghost use Rattle.analysis.specs.Ranks.{ranked, system_of, AnyOrder, HighestFirst};
@@ -8,25 +8,39 @@ ghost use Rattle.analysis.specs.Removal.{RemovalKeepsInTime};
 
 use super::answers::Answers;
 use super::candidates::Candidates;
+use super::higher::{Higher, HigherRows};
 use super::locks::{blocking_of, ceilings_of};
-use super::{Answer, Higher, HigherRows, Rank, Task};
+use super::search::search;
+use super::{Answer, Rank, Task};
 use demand::Kind;
 
-impl<K: Kind> Candidates<'_, K> {
+// The longest and the shortest job of a kind; both 0 where there is none.
+fn jobs_of<K: Kind>(kind: Option<&K>) -> (u32, u32)
+    ensures own { result.0 ≡ (kind_demand K.demand kind.entry).own }
+    ensures least { result.1 ≡ (kind_demand K.demand kind.entry).least }
+{
+    match kind {
+        Some(kind) => (kind.own(), kind.least()),
+        None => (0, 0),
+    }
+}
+
+impl<'a, K: Kind> Candidates<'a, K> {
     // The answer for one rank, and the row as those below meet it.
     fn judge_rank(
         &self,
-        higher: &HigherRows,
+        higher: &HigherRows<'a, K>,
         rank: &Rank,
         blocking: u64,
-    ) -> Option<(Answer, Higher)>
+    ) -> Option<(Answer, Higher<'a, K>)>
         requires { blocking + 2 ^ 32 ≤ 2 ^ 64 }
         ensures { RankJudged K.demand self.now.places.now self.now.newcomer.now higher.now.items rank.now blocking result }
     {
         let wait = u64::from(rank.row.suspension) + blocking;
-        let (own, least) = self.jobs(rank.place);
+        let kind = self.kind(rank.place);
+        let (own, least) = jobs_of(kind);
         let alone = wait.saturating_add(u64::from(own));
-        let (bound, vector) = self.search(higher, alone, rank.row.deadline)?;
+        let (bound, vector) = search(higher, alone, rank.row.deadline)?;
         let answer = Answer {
             number: rank.row.number,
             bound,
@@ -34,7 +48,7 @@ impl<K: Kind> Candidates<'_, K> {
             blocking,
         };
         let met = Higher {
-            place: rank.place,
+            kind,
             wait,
             jitter: u64::from(bound.saturating_sub(least)),
         };

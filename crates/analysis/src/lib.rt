@@ -7,6 +7,7 @@ ghost use Rattle.analysis.specs.Figures.{GarageFigures};
 mod answers;
 mod candidates;
 mod cover;
+mod higher;
 mod judgement;
 mod locks;
 mod ranking;
@@ -15,7 +16,6 @@ mod search;
 mod tests;
 
 pub use answers::Answers;
-use arrayvec::ArrayVec;
 pub use judgement::{JudgeRefusal, judge};
 pub use locks::ceilings_of;
 
@@ -51,17 +51,6 @@ pub struct Rank {
     pub row: Row,
     pub place: usize,
 }
-
-// A row as a lower row meets it: how long it waits, and its jitter, which is its bound less its least job.
-#[derive(Clone, Copy, Default)]
-pub(crate) struct Higher {
-    place: usize,
-    wait: u64,
-    jitter: u64,
-}
-
-// The rows above one, highest first.
-pub(crate) type HigherRows = ArrayVec<Higher, MOST_ROWS>;
 
 // What is answered for a row: its bound, the vector that gives it, and how long it can be blocked.
 #[derive(Clone, Copy, Default)]

@@ -48,16 +48,22 @@ fn longest_section(ceilings: &[Option<u32>; LOCKS], priority: u32, row: &Row) ->
         .unwrap_or(0)
 }
 
+// The longest section of these rows that can block the priority.
+fn longest_of_all(ceilings: &[Option<u32>; LOCKS], priority: u32, rows: &[Rank]) -> u32
+    ensures { result ≡ longest (λ lock. get_or ceilings.now lock None) priority (ranked_rows rows.now) }
+{
+    rows.iter()
+        .map(|rank| longest_section(ceilings, priority, &rank.row))
+        .max()
+        .unwrap_or(0)
+}
+
 // How long the row can be blocked by those below it: when a job starts, and again each time that it comes back from a
 // suspension.
 pub(crate) fn blocking_of(ceilings: &[Option<u32>; LOCKS], row: &Row, lower: &[Rank]) -> u64
     ensures bound { result + 2 ^ 32 ≤ 2 ^ 64 }
     ensures value { result ≡ (row.now.suspensions + 1) * longest (λ lock. get_or ceilings.now lock None) row.now.priority (ranked_rows lower.now) }
 {
-    let longest = lower
-        .iter()
-        .map(|below| longest_section(ceilings, row.priority, &below.row))
-        .max()
-        .unwrap_or(0);
+    let longest = longest_of_all(ceilings, row.priority, lower);
     (u64::from(row.suspensions) + 1) * u64::from(longest)
 }

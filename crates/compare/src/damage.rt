@@ -1,7 +1,10 @@
 // Damage done to the bytes of a plan file.
+ghost use Rattle.std.specs.Prelude.{◌<◌, length, IfSome};
+
 use super::random::Random;
 use super::reading::parts_of;
 use std::alloc::{AllocError, Global};
+use std::iter;
 
 // What is written in place of a field.
 const EDGES: [&str; 24] = [
@@ -34,41 +37,12 @@ const EDGES: [&str; 24] = [
 // Bytes that stand in plan files, or nearly.
 const BYTES: &[u8] = b"0123456789\t\n rowevryhacl-+.\r";
 
-// What is done to one byte.
-#[derive(Clone, Copy)]
-enum Edit {
-    Change(u8),
-    Leave,
-    Put(u8),
-}
-
 fn some_byte(random: &mut Random) -> u8 {
     if random.one_in(8) {
-        return random.byte();
+        random.byte()
+    } else {
+        random.choice(BYTES)
     }
-    let place = random.place(BYTES.len());
-    BYTES.get(place).copied().unwrap_or(b'0')
-}
-
-fn some_edge(random: &mut Random) -> &'static str {
-    let place = random.place(24);
-    if place < 24 { EDGES[place] } else { "0" }
-}
-
-fn with_byte(heap: Global, file: &[u8], chosen: usize, edit: Edit) -> Result<Vec<u8>, AllocError> {
-    let mut out = Vec::new(heap);
-    for (place, byte) in file.iter().enumerate() {
-        match edit {
-            Edit::Change(other) if place == chosen => out.push(other)?,
-            Edit::Leave if place == chosen => {}
-            Edit::Put(more) if place == chosen => {
-                out.push(more)?;
-                out.push(*byte)?;
-            }
-            _ => out.push(*byte)?,
-        }
-    }
-    Ok(out)
 }
 
 fn ends_field(byte: u8) -> bool {
@@ -76,151 +50,110 @@ fn ends_field(byte: u8) -> bool {
 }
 
 fn count_fields(file: &[u8]) -> usize {
-    let mut count: usize = 0;
-    for byte in file {
-        if ends_field(*byte) {
-            count = count.saturating_add(1);
-        }
-    }
-    count
+    file.iter().filter(|byte| ends_field(**byte)).count()
 }
 
-// The file with a text in place of one field.
-fn with_field(heap: Global, file: &[u8], chosen: usize, text: &str) -> Result<Vec<u8>, AllocError> {
-    let mut out = Vec::new(heap);
-    let mut field: usize = 0;
-    for byte in file {
-        if ends_field(*byte) {
-            if field == chosen {
-                out.extend_from_slice(text.as_bytes())?;
-            }
-            field = field.saturating_add(1);
-            out.push(*byte)?;
-        } else if field != chosen {
-            out.push(*byte)?;
-        }
-    }
-    Ok(out)
+// The place of the mark that ends a field.
+fn end_of(file: &[u8], field: usize) -> Option<usize>
+    ensures { IfSome result (λ end. end < length file.now) }
+{
+    file.iter()
+        .enumerate()
+        .filter(|(_, byte)| ends_field(**byte))
+        .map(|(place, _)| place)
+        .nth(field)
 }
 
-fn add_zeros(out: &mut Vec<u8>, count: usize) -> Result<(), AllocError> {
-    for _ in 0..count {
-        out.push(b'0')?;
+// Puts a text in place of a field. Where no mark ends it, it is the whole file, which goes.
+fn replace_field(file: &mut Vec<u8>, field: usize, text: &str) -> Result<(), AllocError> {
+    let Some(end) = end_of(file.as_slice(), field) else {
+        file.clear();
+        return Ok(());
+    };
+    let start = match file[..end].iter().rposition(|byte| ends_field(*byte)) {
+        Some(mark) => mark + 1,
+        None => 0,
+    };
+    file.splice(start..end, text.bytes())?;
+    Ok(())
+}
+
+// Puts so many zeros behind the mark that ends a field.
+fn add_zeros(file: &mut Vec<u8>, field: usize, count: usize) -> Result<(), AllocError> {
+    if let Some(end) = end_of(file.as_slice(), field) {
+        let behind = end + 1;
+        file.splice(behind..behind, iter::repeat_n(b'0', count))?;
     }
     Ok(())
 }
 
-// The file with so many zeros behind what ends one field.
-fn with_zeros(
-    heap: Global,
-    file: &[u8],
-    chosen: usize,
-    count: usize,
-) -> Result<Vec<u8>, AllocError> {
-    let mut out = Vec::new(heap);
-    let mut field: usize = 0;
-    for byte in file {
-        out.push(*byte)?;
-        if ends_field(*byte) {
-            if field == chosen {
-                add_zeros(&mut out, count)?;
-            }
-            field = field.saturating_add(1);
-        }
+// Puts another byte in place of the mark that ends a field.
+fn replace_end(file: &mut Vec<u8>, field: usize, other: u8) {
+    if let Some(end) = end_of(file.as_slice(), field) {
+        file[end] = other;
     }
-    Ok(out)
 }
 
-// The file with a byte in place of what ends one field.
-fn with_end(heap: Global, file: &[u8], chosen: usize, other: u8) -> Result<Vec<u8>, AllocError> {
-    let mut out = Vec::new(heap);
-    let mut field: usize = 0;
-    for byte in file {
-        if ends_field(*byte) {
-            let end = if field == chosen { other } else { *byte };
-            out.push(end)?;
-            field = field.saturating_add(1);
-        } else {
-            out.push(*byte)?;
-        }
-    }
-    Ok(out)
-}
-
-fn add_line(out: &mut Vec<u8>, lines: &[Vec<u8>], place: usize) -> Result<(), AllocError> {
-    if let Some(line) = lines.get(place) {
-        out.extend_from_slice(line.as_slice())?;
-        out.push(b'\n')?;
-    }
-    Ok(())
-}
-
-// The file with two of its lines exchanged.
-fn with_swap(
-    heap: Global,
-    lines: &[Vec<u8>],
-    one: usize,
-    other: usize,
-) -> Result<Vec<u8>, AllocError> {
-    let mut out = Vec::new(heap);
-    for place in 0..lines.len() {
-        let from = if place == one {
-            other
-        } else if place == other {
-            one
-        } else {
-            place
-        };
-        add_line(&mut out, lines, from)?;
-    }
-    Ok(out)
-}
-
-// The file with one of its lines twice.
-fn with_repeat(heap: Global, lines: &[Vec<u8>], chosen: usize) -> Result<Vec<u8>, AllocError> {
-    let mut out = Vec::new(heap);
-    for place in 0..lines.len() {
-        add_line(&mut out, lines, place)?;
-        if place == chosen {
-            add_line(&mut out, lines, place)?;
-        }
-    }
-    Ok(out)
-}
-
-// The file with two lines exchanged, or with one twice.
+// The file with two of its lines exchanged, or with one twice. What stands behind the last newline goes.
 fn with_lines(heap: Global, random: &mut Random, file: &[u8]) -> Result<Vec<u8>, AllocError> {
     let mut lines = parts_of(heap, file, b'\n')?;
     let _behind = lines.pop();
     let one = random.place(lines.len());
     let other = random.place(lines.len());
-    if random.one_in(2) {
-        return with_repeat(heap, lines.as_slice(), one);
+    let twice = random.one_in(2);
+    if let Some(line) = lines.get(one).copied() {
+        if twice {
+            lines.insert(one, line)?;
+        } else {
+            lines.swap(one, other);
+        }
     }
-    with_swap(heap, lines.as_slice(), one, other)
+    let mut out = Vec::new(heap);
+    for line in &lines {
+        out.extend_from_slice(line)?;
+        out.push(b'\n')?;
+    }
+    Ok(out)
 }
 
-// The file with some damage.
-pub(crate) fn damaged(
+// Does some damage to the file.
+pub(crate) fn damage(
     heap: Global,
     random: &mut Random,
-    file: &[u8],
-) -> Result<Vec<u8>, AllocError> {
+    file: &mut Vec<u8>,
+) -> Result<(), AllocError> {
     let chosen = random.place(file.len());
-    let field = random.place(count_fields(file));
+    let field = random.place(count_fields(file.as_slice()));
     if random.one_in(50) {
         // as long as a file may be, or a little shorter or longer
         let length = random.within(4094, 4098) as usize;
-        return with_zeros(heap, file, field, length.saturating_sub(file.len()));
+        return add_zeros(file, field, length.saturating_sub(file.len()));
     }
     match random.below(12) {
-        0 => with_byte(heap, file, chosen, Edit::Change(some_byte(random))),
-        1 => with_byte(heap, file, chosen, Edit::Leave),
-        2 => with_byte(heap, file, chosen, Edit::Put(some_byte(random))),
-        3 => with_end(heap, file, field, b' '),
-        4 => with_end(heap, file, field, b'\n'),
-        5 => with_byte(heap, file, file.len().saturating_sub(1), Edit::Leave),
-        6 | 7 => with_lines(heap, random, file),
-        _ => with_field(heap, file, field, some_edge(random)),
+        0 => {
+            let other = some_byte(random);
+            if chosen < file.len() {
+                file[chosen] = other;
+            }
+        }
+        1 => {
+            if chosen < file.len() {
+                file.remove(chosen);
+            }
+        }
+        2 => {
+            let more = some_byte(random);
+            if chosen < file.len() {
+                file.insert(chosen, more)?;
+            }
+        }
+        3 => replace_end(file, field, b' '),
+        4 => replace_end(file, field, b'\n'),
+        5 => {
+            file.pop();
+        }
+        6 | 7 => *file = with_lines(heap, random, file.as_slice())?,
+        _ => replace_field(file, field, random.choice(&EDGES))?,
     }
+    Ok(())
 }

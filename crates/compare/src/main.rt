@@ -12,16 +12,18 @@ mod scan;
 mod sets;
 
 use files::compare_file;
-use options::{HELP, Options, read_options};
+use options::{HELP, Mode, Options, read_options};
 use random::Case;
+use reading::Check;
 use sets::compare_set;
+use std::collections::BTreeMap;
 
-// One more than the largest number of a check.
-const CHECKS: usize = 20;
+// How many files each check has refused, and, as none, how many got a report.
+type Counts = BTreeMap<Option<Check>, u64>;
 
 // Tells how far a soak is, now and then.
 fn tell_progress(rt: &HostRuntime, options: &Options, done: u64, what: &str) -> anyhow::Result<()> {
-    if options.soak && done % 10_000 == 0 {
+    if options.mode == Mode::Soak && done % 10_000 == 0 {
         eprintln!(rt; "{what}: {done} compared")?;
     }
     Ok(())
@@ -36,21 +38,17 @@ fn compare_sets(rt: &HostRuntime, options: &Options) -> anyhow::Result<()> {
         tell_progress(rt, options, index, "sets")?;
         let seen = compare_set(rt, Case { seed, index })?;
         plans = plans.saturating_add(u64::from(seen.plans));
-        if seen.late {
-            late = late.saturating_add(1);
-        }
+        late = late.saturating_add(u64::from(seen.late));
     }
     println!(rt; "sets: {sets} compared, {late} late, {plans} plans, 0 differ")?;
     Ok(())
 }
 
-// Tells how many files each check has refused, and, as number 0, how many got a report.
-fn tell_counts(rt: &HostRuntime, counts: &[u64; CHECKS]) -> anyhow::Result<()> {
-    for check in 0..CHECKS {
-        let count = counts[check];
-        if count > 0 {
-            eprintln!(rt; "check {check}: {count} files")?;
-        }
+// Tells the counts, that of the reports under the number 0.
+fn tell_counts(rt: &HostRuntime, counts: &Counts) -> anyhow::Result<()> {
+    for (check, count) in counts {
+        let number = check.map_or(0, |check| check as u32);
+        eprintln!(rt; "check {number}: {count} files")?;
     }
     Ok(())
 }
@@ -58,26 +56,25 @@ fn tell_counts(rt: &HostRuntime, counts: &[u64; CHECKS]) -> anyhow::Result<()> {
 fn compare_files(rt: &HostRuntime, options: &Options) -> anyhow::Result<()> {
     let seed = options.seed;
     let files = options.files;
-    let mut counts = [0u64; CHECKS];
+    let mut counts: Counts = BTreeMap::new(rt.alloc());
     for index in 0..files {
         tell_progress(rt, options, index, "files")?;
         let check = compare_file(rt, Case { seed, index })?;
-        if check < CHECKS {
-            let more = counts[check].saturating_add(1);
-            counts[check] = more;
-        }
+        let count = counts.entry(check)?.or_insert(0);
+        *count = (*count).saturating_add(1);
     }
-    if options.soak {
+    if options.mode == Mode::Soak {
         tell_counts(rt, &counts)?;
     }
-    let refused = files.saturating_sub(counts[0]);
+    let reports = counts.get(&None).copied().unwrap_or(0);
+    let refused = files.saturating_sub(reports);
     println!(rt; "files: {files} compared, {refused} refused, 0 differ")?;
     Ok(())
 }
 
 fn run(rt: &HostRuntime) -> anyhow::Result<()> {
     let options = read_options(rt)?;
-    if options.help {
+    if options.mode == Mode::Help {
         rt.print(HELP)?;
         return Ok(());
     }

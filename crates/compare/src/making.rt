@@ -1,5 +1,5 @@
 // Rows with small numbers, made at random.
-use super::plain::{Jobs, Layer, Nested, Plain, spacing_and_own};
+use super::plain::{Factor, Jobs, Layer, Nested, Plain, Suspension};
 use super::random::Random;
 
 // How the priorities of a set are dealt out: no two rows get the same.
@@ -31,23 +31,39 @@ fn number_at(random: &mut Random, place: u32) -> u32 {
 // Up to three locks are used, each by few rows.
 fn some_sections(random: &mut Random, longest: u32) -> [u32; 8] {
     let mut sections = [0; 8];
-    for lock in 0..8usize {
+    for (lock, section) in sections.iter_mut().enumerate() {
         if (lock < 2 || lock == 7) && random.one_in(4) {
-            sections[lock] = random.within(1, longest);
+            *section = random.within(1, longest);
         }
     }
     sections
 }
 
-// How long a job suspends itself in all, and how often. Where `loose` holds, one of them may be 0 alone.
-fn some_suspension(random: &mut Random, loose: bool) -> (u32, u32) {
-    if loose && random.one_in(12) {
-        return (random.below(3), random.below(3));
-    }
+// A suspension whose numbers are both 0, or neither.
+fn some_suspension(random: &mut Random) -> Suspension {
     if random.one_in(3) {
-        return (random.within(1, 6), random.within(1, 3));
+        Suspension {
+            length: random.within(1, 6),
+            times: random.within(1, 3),
+        }
+    } else {
+        Suspension {
+            length: 0,
+            times: 0,
+        }
     }
-    (0, 0)
+}
+
+// A suspension of which one number may be 0 alone.
+fn loose_suspension(random: &mut Random) -> Suspension {
+    if random.one_in(12) {
+        Suspension {
+            length: random.below(3),
+            times: random.below(3),
+        }
+    } else {
+        some_suspension(random)
+    }
 }
 
 // Jobs of up to this length, with periods from this one on.
@@ -68,7 +84,8 @@ fn some_jobs(random: &mut Random, longest: u32, shortest: u32) -> Jobs {
     }
 }
 
-// Jobs with numbers out of range, or next to it.
+// Jobs with numbers out of range, or next to it. Each number is drawn otherwise than in `some_jobs`, so one function
+// for both would take four closures.
 fn odd_jobs(random: &mut Random) -> Jobs {
     let job = random.below(3);
     let period = random.below(30);
@@ -85,21 +102,24 @@ fn odd_jobs(random: &mut Random) -> Jobs {
     }
 }
 
-fn some_factor(random: &mut Random) -> (u32, u32) {
+fn some_factor(random: &mut Random) -> Factor {
     let denominator = random.within(1, 5);
     let numerator = denominator.saturating_add(random.below(3));
-    (numerator, denominator)
+    Factor {
+        numerator,
+        denominator,
+    }
 }
 
 fn some_layer(random: &mut Random) -> Layer {
     match random.below(16) {
         0 => Layer::Late(random.within(0, 99)),
-        1 => Layer::Slow(random.below(4), random.below(4)),
+        1 => Layer::Slow(Factor {
+            numerator: random.below(4),
+            denominator: random.below(4),
+        }),
         2..=5 => Layer::Late(random.below(8)),
-        6..=9 => {
-            let (numerator, denominator) = some_factor(random);
-            Layer::Slow(numerator, denominator)
-        }
+        6..=9 => Layer::Slow(some_factor(random)),
         _ => Layer::Bare,
     }
 }
@@ -118,7 +138,7 @@ fn some_kind(random: &mut Random) -> Nested {
 // A row for `judge`, which takes any numbers.
 pub(crate) fn some_row(random: &mut Random, deal: Deal, place: u32) -> Plain {
     let kind = some_kind(random);
-    let (suspension, suspensions) = some_suspension(random, true);
+    let suspension = loose_suspension(random);
     let deadline = if random.one_in(8) {
         random.below(20)
     } else {
@@ -128,7 +148,6 @@ pub(crate) fn some_row(random: &mut Random, deal: Deal, place: u32) -> Plain {
         number: number_at(random, place),
         priority: deal.priority(random, place),
         suspension,
-        suspensions,
         deadline,
         sections: some_sections(random, 4),
         kind,
@@ -136,9 +155,12 @@ pub(crate) fn some_row(random: &mut Random, deal: Deal, place: u32) -> Plain {
 }
 
 // The factor of a clock line.
-pub(crate) fn some_clock(random: &mut Random) -> (u32, u32) {
+pub(crate) fn some_clock(random: &mut Random) -> Factor {
     if random.one_in(2) {
-        return (1, 1);
+        return Factor {
+            numerator: 1,
+            denominator: 1,
+        };
     }
     some_factor(random)
 }
@@ -156,24 +178,22 @@ fn file_jobs(random: &mut Random) -> Jobs {
 }
 
 // A row of a plan file, which passes all checks but perhaps that for lateness.
-pub(crate) fn file_row(random: &mut Random, clock: (u32, u32), deal: Deal, place: u32) -> Plain {
-    let (numerator, denominator) = clock;
+pub(crate) fn file_row(random: &mut Random, clock: Factor, deal: Deal, place: u32) -> Plain {
     let delay = if random.one_in(3) { random.below(8) } else { 0 };
     let kind = Nested {
         jobs: file_jobs(random),
         inner: Layer::Late(delay),
-        outer: Layer::Slow(numerator, denominator),
+        outer: Layer::Slow(clock),
     };
-    let (spacing, own) = spacing_and_own(kind);
-    let (suspension, suspensions) = some_suspension(random, false);
-    let deadline = u32::try_from(spacing).unwrap_or(0);
+    let suspension = some_suspension(random);
+    let spacing = u32::try_from(kind.spacing()).unwrap_or(0);
+    let own = u32::try_from(kind.own()).unwrap_or(0);
     Plain {
         number: number_at(random, place),
         priority: deal.priority(random, place),
         suspension,
-        suspensions,
-        deadline: deadline.saturating_sub(random.below(3)),
-        sections: some_sections(random, u32::try_from(own).unwrap_or(0).min(2)),
+        deadline: spacing.saturating_sub(random.below(3)),
+        sections: some_sections(random, own.min(2)),
         kind,
     }
 }

@@ -1,6 +1,9 @@
 // The arguments of the program.
-use anyhow::anyhow;
-use std::env;
+ghost use Rattle.std.specs.Prelude.{◌≤◌};
+ghost use Rattle.std.specs.Vec.Iter.{into_iter_len};
+
+use anyhow::{Context, anyhow};
+use std::env::{self, Args};
 
 pub(crate) const HELP: &str = "\
 compare: compares the planner with a brute force that shares no code with it
@@ -15,73 +18,59 @@ the rows or the file, and both answers, and ends with status 1.
 With any of these it tells on standard error how far it is, and how many files each check has refused.
 ";
 
-// What is to be compared.
+// What is asked of the program.
+#[derive(Clone, Copy, PartialEq, Eq)]
+pub(crate) enum Mode {
+    // to compare
+    Usual,
+    // to compare, and to tell on standard error how far it is
+    Soak,
+    // to print how it is used
+    Help,
+}
+
+// What is asked, and how much is to be compared.
 #[derive(Clone, Copy)]
 pub(crate) struct Options {
+    pub(crate) mode: Mode,
     pub(crate) seed: u64,
     pub(crate) sets: u64,
     pub(crate) files: u64,
-    // tells on standard error how far it is
-    pub(crate) soak: bool,
-    pub(crate) help: bool,
-}
-
-// What the next argument is.
-#[derive(Clone, Copy, PartialEq, Eq)]
-enum Due {
-    Flag,
-    Seed,
-    Sets,
-    Files,
 }
 
 const USUAL: Options = Options {
+    mode: Mode::Usual,
     seed: 1,
     sets: 200_000,
     files: 200_000,
-    soak: false,
-    help: false,
 };
 
-impl Options {
-    // Takes a word that names an option, and answers what is due after it.
-    fn name(&mut self, word: &str) -> anyhow::Result<Due> {
-        self.soak = true;
-        match word {
-            "--seed" => Ok(Due::Seed),
-            "--sets" => Ok(Due::Sets),
-            "--files" => Ok(Due::Files),
-            "--help" => {
-                self.help = true;
-                Ok(Due::Flag)
-            }
-            _ => Err(anyhow!("compare takes --seed N, --sets N, --files N and --help")),
-        }
-    }
-
-    // Takes an argument, and answers what is due after it.
-    fn take(&mut self, due: Due, word: &str) -> anyhow::Result<Due> {
-        match due {
-            Due::Flag => return self.name(word),
-            Due::Seed => self.seed = word.parse::<u64>()?,
-            Due::Sets => self.sets = word.parse::<u64>()?,
-            Due::Files => self.files = word.parse::<u64>()?,
-        }
-        Ok(Due::Flag)
-    }
+// The number that stands behind an option.
+fn number(args: &mut Args) -> anyhow::Result<u64>
+    ensures { into_iter_len args.new ≤ into_iter_len args.old }
+{
+    let word = args.next().context("the last argument wants a number")?;
+    Ok(word.as_str().parse::<u64>()?)
 }
 
 // The options that the arguments give.
 pub(crate) fn read_options(rt: &HostRuntime) -> anyhow::Result<Options> {
     let mut options = USUAL;
-    let mut due = Due::Flag;
     let mut args = env::args(rt)?;
     let _program = args.next();
-    for word in args {
-        due = options.take(due, word.as_str())?;
+    if args.len() > 0 {
+        options.mode = Mode::Soak;
     }
-    if due != Due::Flag {
-        return Err(anyhow!("the last argument wants a number"));
+    while let Some(word) = args.next() {
+        match word.as_str() {
+            "--seed" => options.seed = number(&mut args)?,
+            "--sets" => options.sets = number(&mut args)?,
+            "--files" => options.files = number(&mut args)?,
+            "--help" => options.mode = Mode::Help,
+            _ => {
+                return Err(anyhow!("compare takes --seed N, --sets N, --files N and --help"));
+            }
+        }
     }
     Ok(options)
 }

@@ -1,4 +1,5 @@
 // Numbers that look random, and are the same in every run.
+ghost use Rattle.std.specs.Prelude.{◌<◌, ◌≤◌, length};
 
 // One case of a run: the seed of the run, and which case it is.
 #[derive(Clone, Copy)]
@@ -31,7 +32,7 @@ impl Random {
         ((twice >> 32) & 0xffff_ffff) as u32
     }
 
-    // A number below `end`; 0 where there is none.
+    // A number below `end`; 0 where there is none. One function with `place` would have to cast each time.
     pub(crate) fn below(&mut self, end: u32) -> u32 {
         self.draw().checked_rem(end).unwrap_or(0)
     }
@@ -48,8 +49,18 @@ impl Random {
     }
 
     // A place below `end`; 0 where there is none.
-    pub(crate) fn place(&mut self, end: usize) -> usize {
+    pub(crate) fn place(&mut self, end: usize) -> usize
+        ensures below { 0 < end → result < end }
+        ensures at_most { result ≤ end }
+    {
         (self.draw() as usize).checked_rem(end).unwrap_or(0)
+    }
+
+    // One of these.
+    pub(crate) fn choice<T: Copy>(&mut self, all: &[T]) -> T
+        requires { 0 < length all.now }
+    {
+        all[self.place(all.len())]
     }
 
     // Any byte.

@@ -1,360 +1,327 @@
 // Plan files, read the long way: split into lines and fields, checked in order, row by row.
-use super::plain::{Jobs, Layer, Nested, Plain, spacing_and_own};
-use super::scan::{Verdict, rank_rows, scan_rows};
-use super::sets::write_report;
-use std::alloc::{AllocError, Global};
-use std::mem;
+use super::plain::{Factor, Jobs, Layer, Nested, Plain, Suspension};
+use super::scan::{Found, rank_rows, scan_rows};
+use std::alloc::{AllocError, AllocFailed, Global};
+use std::{array, fmt};
 
-// What is wrong with a line: the field to blame, the number of the check, and the late row.
-#[derive(Clone, Copy)]
-struct Blame {
-    field: usize,
-    check: u32,
-    late: u32,
+// What a file can be refused for, with the number that stands in the line of its refusal.
+#[derive(Clone, Copy, PartialEq, Eq, PartialOrd, Ord)]
+pub(crate) enum Check {
+    Lengths = 1,
+    Period = 2,
+    Delay = 3,
+    Factor = 4,
+    Number = 5,
+    Priority = 6,
+    Suspension = 7,
+    Deadline = 8,
+    Sections = 9,
+    Rows = 10,
+    Lateness = 11,
+    Fields = 15,
+    Digits = 16,
+    Word = 17,
+    File = 18,
 }
 
-// A word that can be due in a field.
-#[derive(Clone, Copy, PartialEq, Eq)]
-enum Word {
-    Clock,
-    Row,
+// What is wrong with a line.
+#[derive(Clone, Copy)]
+pub(crate) enum Blame {
+    Line(Check),
+    // one of its fields, counted from 1
+    Field(usize, Check),
+    // with its row the row of this number is late
+    Late(u32),
+}
+
+// What a file is refused for.
+#[derive(Clone, Copy)]
+pub(crate) enum Refusal {
+    File,
+    // one of its lines, counted from 1
+    Line(usize, Blame),
+}
+
+// Why a file gets no report.
+#[derive(Clone, Copy)]
+enum Unread {
+    Refused(Refusal),
+    NoMemory(AllocError),
+}
+
+// What kind of jobs a row has.
+#[derive(Clone, Copy)]
+enum Kind {
     Every,
     Heavy,
-    Other,
 }
 
-fn at_field(check: u32, field: usize) -> Option<Blame> {
-    Some(Blame {
-        field,
-        check,
-        late: 0,
-    })
+impl From<Check> for Blame {
+    fn from(check: Check) -> Blame {
+        Blame::Line(check)
+    }
 }
 
-fn at_line(check: u32) -> Option<Blame> {
-    at_field(check, 0)
+impl From<Refusal> for Unread {
+    fn from(refusal: Refusal) -> Unread {
+        Unread::Refused(refusal)
+    }
+}
+
+impl From<AllocError> for Unread {
+    fn from(error: AllocError) -> Unread {
+        Unread::NoMemory(error)
+    }
+}
+
+impl<T: Drop> From<AllocFailed<T>> for Unread {
+    fn from(error: AllocFailed<T>) -> Unread {
+        Unread::NoMemory(AllocError::from(error))
+    }
+}
+
+impl Refusal {
+    pub(crate) fn check(self) -> Check {
+        match self {
+            Refusal::File => Check::File,
+            Refusal::Line(_, Blame::Line(check)) => check,
+            Refusal::Line(_, Blame::Field(_, check)) => check,
+            Refusal::Line(_, Blame::Late(_)) => Check::Lateness,
+        }
+    }
+}
+
+// The line of a refusal: a number is 0 where there is none.
+impl fmt::Display for Refusal {
+    fn fmt<W: fmt::Write>(&self, f: &mut fmt::Formatter<W>) -> fmt::Result {
+        let check = self.check() as u32;
+        let (line, field, late) = match *self {
+            Refusal::File => (0, 0, 0),
+            Refusal::Line(line, Blame::Line(_)) => (line, 0, 0),
+            Refusal::Line(line, Blame::Field(field, _)) => (line, field, 0),
+            Refusal::Line(line, Blame::Late(late)) => (line, 0, late),
+        };
+        writeln!(f, "refused\t{line}\t{field}\t{check}\t{late}")
+    }
 }
 
 // The parts of a text, of which two are parted by a mark.
-pub(crate) fn parts_of(heap: Global, text: &[u8], mark: u8) -> Result<Vec<Vec<u8>>, AllocError> {
-    let mut parts = Vec::new(heap);
-    let mut part = Vec::new(heap);
-    for byte in text {
-        if *byte == mark {
-            let full = mem::replace(&mut part, Vec::new(heap));
-            parts.push(full)?;
-        } else {
-            part.push(*byte)?;
-        }
-    }
-    parts.push(part)?;
-    Ok(parts)
+pub(crate) fn parts_of(heap: Global, text: &[u8], mark: u8) -> Result<Vec<&[u8]>, AllocError> {
+    text.split(|byte| *byte == mark).collect(heap)
 }
 
 // The value of a field that is a number.
-pub(crate) fn value_of(field: &[u8]) -> Option<u32> {
+fn value_of(field: &[u8]) -> Option<u32> {
     if field.is_empty() {
         return None;
     }
-    let mut value: u64 = 0;
-    for byte in field {
-        if *byte < b'0' || *byte > b'9' {
-            return None;
-        }
-        let digit = u64::from((*byte).saturating_sub(b'0'));
-        value = value.saturating_mul(10).saturating_add(digit);
-    }
-    if value > 4_294_967_295 {
-        return None;
-    }
-    Some(value as u32)
+    field.iter().try_fold(0u32, |value, byte| {
+        let digit = char::from(*byte).to_digit(10)?;
+        value.checked_mul(10)?.checked_add(digit)
+    })
 }
 
-// The word of the field at a place, from 0.
-fn word_at(fields: &[Vec<u8>], place: usize) -> Word {
-    let Some(field) = fields.get(place) else {
-        return Word::Other;
+// The number that stands in the field at a place, counted from 0.
+fn number_at(fields: &[&[u8]], place: usize) -> Result<u32, Blame> {
+    let value = fields.get(place).and_then(|field| value_of(field));
+    value.ok_or(Blame::Field(place.saturating_add(1), Check::Digits))
+}
+
+// The numbers that stand in the fields from a place on.
+fn numbers_at<const N: usize>(fields: &[&[u8]], place: usize) -> Result<[u32; N], Blame> {
+    let mut numbers = [0; N];
+    for (number, place) in numbers.iter_mut().zip(place..) {
+        *number = number_at(fields, place)?;
+    }
+    Ok(numbers)
+}
+
+// The factor of a clock line.
+fn clock_of(fields: &[&[u8]]) -> Result<Factor, Blame> {
+    let [b"clock", ..] = fields else {
+        return Err(Blame::Field(1, Check::Word));
     };
-    match field.as_slice() {
-        b"clock" => Word::Clock,
-        b"row" => Word::Row,
-        b"every" => Word::Every,
-        b"heavy" => Word::Heavy,
-        _ => Word::Other,
-    }
-}
-
-// The number of the field at a place, from 0.
-fn number_at(fields: &[Vec<u8>], place: usize) -> u32 {
-    match fields.get(place) {
-        Some(field) => value_of(field.as_slice()).unwrap_or(0),
-        None => 0,
-    }
-}
-
-// The first field that should be a number and is none. Words stand in the fields 1 and 16.
-fn number_blame(fields: &[Vec<u8>]) -> Option<Blame> {
-    for (place, field) in fields.iter().enumerate() {
-        if place != 0 && place != 15 && value_of(field.as_slice()).is_none() {
-            return at_field(16, place.saturating_add(1));
-        }
-    }
-    None
-}
-
-// The checks of the clock line.
-fn clock_blame(fields: &[Vec<u8>]) -> Option<Blame> {
-    if word_at(fields, 0) != Word::Clock {
-        return at_field(17, 1);
-    }
     if fields.len() != 3 {
-        return at_line(15);
+        return Err(Blame::Line(Check::Fields));
     }
-    let blame = number_blame(fields);
-    if blame.is_some() {
-        return blame;
-    }
-    let numerator = number_at(fields, 1);
-    let denominator = number_at(fields, 2);
+    let [numerator, denominator] = numbers_at::<2>(fields, 1)?;
     if 1 <= denominator && denominator <= numerator && numerator <= 1000 {
-        return None;
+        Ok(Factor {
+            numerator,
+            denominator,
+        })
+    } else {
+        Err(Blame::Line(Check::Factor))
     }
-    at_line(4)
 }
 
-// The checks of a row line that need no number's value.
-fn form_blame(fields: &[Vec<u8>]) -> Option<Blame> {
-    if word_at(fields, 0) != Word::Row {
-        return at_field(17, 1);
-    }
-    if fields.len() < 16 {
-        return at_line(15);
-    }
-    let due = match word_at(fields, 15) {
-        Word::Every => 18,
-        Word::Heavy => 20,
-        _ => return at_field(17, 16),
+// The kind of a row line that has the words and as many fields as it should.
+fn kind_of(fields: &[&[u8]]) -> Result<Kind, Blame> {
+    let [b"row", ..] = fields else {
+        return Err(Blame::Field(1, Check::Word));
+    };
+    let (kind, due) = match fields.get(15).copied() {
+        Some(b"every") => (Kind::Every, 18),
+        Some(b"heavy") => (Kind::Heavy, 20),
+        Some(_) => return Err(Blame::Field(16, Check::Word)),
+        None => return Err(Blame::Line(Check::Fields)),
     };
     if fields.len() != due {
-        return at_line(15);
+        return Err(Blame::Line(Check::Fields));
     }
-    number_blame(fields)
+    Ok(kind)
 }
 
-fn jobs_of(fields: &[Vec<u8>]) -> Jobs {
-    match word_at(fields, 15) {
-        Word::Heavy => Jobs::Heavy {
-            job: number_at(fields, 16),
-            heavy: number_at(fields, 17),
-            among: number_at(fields, 18),
-            period: number_at(fields, 19),
-        },
-        _ => Jobs::Every {
-            job: number_at(fields, 16),
-            period: number_at(fields, 17),
-        },
+fn jobs_of(fields: &[&[u8]], kind: Kind) -> Result<Jobs, Blame> {
+    match kind {
+        Kind::Every => {
+            let [job, period] = numbers_at::<2>(fields, 16)?;
+            Ok(Jobs::Every { job, period })
+        }
+        Kind::Heavy => {
+            let [job, heavy, among, period] = numbers_at::<4>(fields, 16)?;
+            Ok(Jobs::Heavy {
+                job,
+                heavy,
+                among,
+                period,
+            })
+        }
     }
-}
-
-fn sections_of(fields: &[Vec<u8>]) -> [u32; 8] {
-    let mut sections = [0; 8];
-    for lock in 0..8usize {
-        sections[lock] = number_at(fields, lock.saturating_add(7));
-    }
-    sections
 }
 
 // The row of a line.
-fn row_of(fields: &[Vec<u8>], clock: (u32, u32)) -> Plain {
-    let (numerator, denominator) = clock;
-    let kind = Nested {
-        jobs: jobs_of(fields),
-        inner: Layer::Late(number_at(fields, 6)),
-        outer: Layer::Slow(numerator, denominator),
-    };
-    Plain {
-        number: number_at(fields, 1),
-        priority: number_at(fields, 2),
-        suspension: number_at(fields, 3),
-        suspensions: number_at(fields, 4),
-        deadline: number_at(fields, 5),
-        sections: sections_of(fields),
-        kind,
-    }
+fn row_of(fields: &[&[u8]], clock: Factor) -> Result<Plain, Blame> {
+    let kind = kind_of(fields)?;
+    let [number, priority, length, times, deadline, delay] = numbers_at::<6>(fields, 1)?;
+    let sections = numbers_at(fields, 7)?;
+    let jobs = jobs_of(fields, kind)?;
+    check_jobs(jobs, delay)?;
+    Ok(Plain {
+        number,
+        priority,
+        suspension: Suspension { length, times },
+        deadline,
+        sections,
+        kind: Nested {
+            jobs,
+            inner: Layer::Late(delay),
+            outer: Layer::Slow(clock),
+        },
+    })
 }
 
 fn is_length(n: u32) -> bool {
     1 <= n && n <= 1_000_000
 }
 
+fn has_sound_lengths(jobs: Jobs) -> bool {
+    match jobs {
+        Jobs::Every { job, .. } => is_length(job),
+        Jobs::Heavy { job, heavy, .. } => is_length(job) && is_length(heavy) && job <= heavy,
+    }
+}
+
+fn has_sound_period(jobs: Jobs) -> bool {
+    match jobs {
+        Jobs::Every { period, .. } => is_length(period),
+        Jobs::Heavy { among, period, .. } => is_length(period) && 2 <= among && among <= 64,
+    }
+}
+
 // The checks of the jobs and of the delay.
-fn kind_blame(jobs: Jobs, delay: u32) -> Option<Blame> {
-    let (job, heavy, among, period) = match jobs {
-        Jobs::Every { job, period } => (job, job, 2, period),
-        Jobs::Heavy {
-            job,
-            heavy,
-            among,
-            period,
-        } => (job, heavy, among, period),
-    };
-    if !is_length(job) || !is_length(heavy) || heavy < job {
-        return at_line(1);
+fn check_jobs(jobs: Jobs, delay: u32) -> Result<(), Check> {
+    if !has_sound_lengths(jobs) {
+        return Err(Check::Lengths);
     }
-    if !is_length(period) || among < 2 || among > 64 {
-        return at_line(2);
+    if !has_sound_period(jobs) {
+        return Err(Check::Period);
     }
-    if delay >= period {
-        return at_line(3);
+    if delay >= jobs.period() {
+        return Err(Check::Delay);
     }
-    None
-}
-
-fn has_number(rows: &[Plain], number: u32) -> bool {
-    for row in rows {
-        if row.number == number {
-            return true;
-        }
-    }
-    false
-}
-
-fn has_priority(rows: &[Plain], priority: u32) -> bool {
-    for row in rows {
-        if row.priority == priority {
-            return true;
-        }
-    }
-    false
-}
-
-fn has_longer(sections: &[u32], own: u64) -> bool {
-    for section in sections {
-        if u64::from(*section) > own {
-            return true;
-        }
-    }
-    false
+    Ok(())
 }
 
 // The checks of a row among the rows above it in the file, but for lateness.
-fn row_blame(rows: &[Plain], row: &Plain) -> Option<Blame> {
-    let (spacing, own) = spacing_and_own(row.kind);
-    if row.number < 1 || row.number > 255 || has_number(rows, row.number) {
-        return at_line(5);
+fn check_row(rows: &[Plain], row: &Plain) -> Result<(), Check> {
+    let is_name = |n: u32| 1 <= n && n <= 255;
+    if !is_name(row.number) || rows.iter().any(|other| other.number == row.number) {
+        return Err(Check::Number);
     }
-    if row.priority < 1 || row.priority > 255 || has_priority(rows, row.priority) {
-        return at_line(6);
+    if !is_name(row.priority) || rows.iter().any(|other| other.priority == row.priority) {
+        return Err(Check::Priority);
     }
-    let alone = (row.suspension == 0) != (row.suspensions == 0);
-    if row.suspension > 1_000_000 || row.suspensions > 63 || alone {
-        return at_line(7);
+    let Suspension { length, times } = row.suspension;
+    if length > 1_000_000 || times > 63 || (length == 0) != (times == 0) {
+        return Err(Check::Suspension);
     }
-    if row.deadline == 0 || u64::from(row.deadline) > spacing {
-        return at_line(8);
+    if row.deadline == 0 || u64::from(row.deadline) > row.kind.spacing() {
+        return Err(Check::Deadline);
     }
-    if has_longer(&row.sections, own) {
-        return at_line(9);
+    let own = row.kind.own();
+    if row.sections.iter().any(|section| u64::from(*section) > own) {
+        return Err(Check::Sections);
     }
     if rows.len() >= 12 {
-        return at_line(10);
+        return Err(Check::Rows);
     }
-    None
+    Ok(())
 }
 
-// All checks of a row line but for lateness.
-fn line_blame(fields: &[Vec<u8>], clock: (u32, u32), rows: &[Plain]) -> Option<Blame> {
-    let form = form_blame(fields);
-    if form.is_some() {
-        return form;
-    }
-    let kind = kind_blame(jobs_of(fields), number_at(fields, 6));
-    if kind.is_some() {
-        return kind;
-    }
-    row_blame(rows, &row_of(fields, clock))
+// The row of a line, if nothing but lateness can speak against it below these rows.
+fn row_below(rows: &[Plain], fields: &[&[u8]], clock: Factor) -> Result<Plain, Blame> {
+    let row = row_of(fields, clock)?;
+    check_row(rows, &row)?;
+    Ok(row)
 }
 
-// What is found for the rows.
-fn verdict_of(heap: Global, rows: &[Plain]) -> Result<Verdict, AllocError> {
-    let ranks = rank_rows(heap, rows)?;
-    scan_rows(heap, ranks.as_slice())
-}
-
-// Takes the row of a line in, if nothing speaks against it.
+// Takes the row of a line in, if nothing speaks against it. The answer is what is found for all rows then.
 fn take_line(
     heap: Global,
+    number: usize,
     line: &[u8],
-    clock: (u32, u32),
+    clock: Factor,
     rows: &mut Vec<Plain>,
-) -> Result<Option<Blame>, AllocError> {
+) -> Result<Vec<Found>, Unread> {
+    let refuse = |blame: Blame| Refusal::Line(number, blame);
     let fields = parts_of(heap, line, b'\t')?;
-    let blame = line_blame(fields.as_slice(), clock, rows.as_slice());
-    if blame.is_some() {
-        return Ok(blame);
-    }
-    rows.push(row_of(fields.as_slice(), clock))?;
-    match verdict_of(heap, rows.as_slice())? {
-        Verdict::Late(late) => Ok(Some(Blame {
-            field: 0,
-            check: 11,
-            late,
-        })),
-        _ => Ok(None),
-    }
+    let row = row_below(rows.as_slice(), fields.as_slice(), clock).map_err(refuse)?;
+    rows.push(row)?;
+    let ranks = rank_rows(heap, rows.as_slice())?;
+    let verdict = scan_rows(heap, ranks.as_slice())?;
+    let found = verdict.map_err(|late| refuse(Blame::Late(late.number)))?;
+    Ok(found)
 }
 
-// The line of a refusal.
-fn refusal(heap: Global, line: usize, blame: Blame) -> Result<String, AllocError> {
-    let field = blame.field;
-    let check = blame.check;
-    let late = blame.late;
-    format!(in heap; "refused\t{line}\t{field}\t{check}\t{late}\n")
-}
-
-// The report of the rows.
-fn report(heap: Global, rows: &[Plain]) -> anyhow::Result<String> {
-    let mut text = String::new(heap);
-    let verdict = verdict_of(heap, rows)?;
-    if let Verdict::InTime(found) = &verdict {
-        write_report(&mut text, found.as_slice())?;
-    }
-    Ok(text)
-}
-
-// What is to be printed for a file's lines, of which the first is the clock line.
-fn read_lines(heap: Global, lines: &[Vec<u8>], clock: (u32, u32)) -> anyhow::Result<String> {
+// What is found for the rows of a text, whose lines are parted by newlines.
+fn found_in_lines(heap: Global, text: &[u8]) -> Result<Vec<Found>, Unread> {
+    let lines = parts_of(heap, text, b'\n')?;
+    let first = parts_of(heap, lines.first().copied().unwrap_or(b""), b'\t')?;
+    let clock = clock_of(first.as_slice()).map_err(|blame| Refusal::Line(1, blame))?;
     let mut rows = Vec::new(heap);
-    for place in 1..lines.len() {
-        if let Some(blame) = take_line(heap, lines[place].as_slice(), clock, &mut rows)? {
-            return Ok(refusal(heap, place.saturating_add(1), blame)?);
-        }
+    let mut found = Vec::new(heap);
+    for (number, line) in (1..).zip(&lines).skip(1) {
+        found = take_line(heap, number, line, clock, &mut rows)?;
     }
-    report(heap, rows.as_slice())
+    Ok(found)
 }
 
-// What is to be printed for a file that ends with a newline.
-fn read_all(heap: Global, file: &[u8]) -> anyhow::Result<String> {
-    let mut lines = parts_of(heap, file, b'\n')?;
-    let _behind = lines.pop();
-    let first = match lines.get(0) {
-        Some(line) => parts_of(heap, line.as_slice(), b'\t')?,
-        None => Vec::new(heap),
-    };
-    if let Some(blame) = clock_blame(first.as_slice()) {
-        return Ok(refusal(heap, 1, blame)?);
+fn found_in(heap: Global, file: &[u8]) -> Result<Vec<Found>, Unread> {
+    match file {
+        [text @ .., b'\n'] if file.len() <= 4096 => found_in_lines(heap, text),
+        _ => Err(Unread::Refused(Refusal::File)),
     }
-    let clock = (
-        number_at(first.as_slice(), 1),
-        number_at(first.as_slice(), 2),
-    );
-    read_lines(heap, lines.as_slice(), clock)
 }
 
-// What is to be printed for a file.
-pub(crate) fn read_plan(heap: Global, file: &[u8]) -> anyhow::Result<String> {
-    match file.last() {
-        Some(b'\n') if file.len() <= 4096 => read_all(heap, file),
-        _ => Ok(String::from_str(heap, "refused\t0\t0\t18\t0\n")?),
+// What is found for the rows of a file, or what it is refused for.
+pub(crate) fn read_plan(
+    heap: Global,
+    file: &[u8],
+) -> Result<Result<Vec<Found>, Refusal>, AllocError> {
+    match found_in(heap, file) {
+        Ok(found) => Ok(Ok(found)),
+        Err(Unread::Refused(refusal)) => Ok(Err(refusal)),
+        Err(Unread::NoMemory(error)) => Err(error),
     }
 }

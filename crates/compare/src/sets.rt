@@ -1,14 +1,15 @@
 // Sets of rows: what `judge` answers, against the scan and against every plan.
 use super::making::{Deal, some_row};
-use super::plain::{Jobs, Layer, Plain};
+use super::plain::{self, Jobs, Layer, Plain};
 use super::random::{Case, Random};
 use super::scan::{
-    Found, Ranked, Verdict, plan_bounds, plan_count, plan_vectors, rank_rows, scan_rows,
+    Found, Late, Ranked, plan_bounds, plan_count, plan_vectors, rank_rows, report_of, scan_rows,
 };
 use analysis::{JudgeRefusal, Row, Task, judge};
 use anyhow::anyhow;
 use demand::{Delayed, Either, Every, Factor, Heavy, Left, Right, Slowed};
 use std::alloc::{AllocError, Global};
+use std::fmt;
 
 // The jobs inside all layers, then one layer around them, then two.
 type Basic = Either<Every, Heavy>;
@@ -24,27 +25,65 @@ struct Passed {
     newcomer: Option<Task<TwoLayers>>,
 }
 
-// What was seen of a set.
+// What is answered for a set.
+type Verdict = Result<Vec<Found>, JudgeRefusal>;
+
+// What was seen of a set: whether a row is late, and how many plans were tried.
 #[derive(Clone, Copy)]
 pub(crate) struct SetSeen {
     pub(crate) late: bool,
     pub(crate) plans: u32,
 }
 
-fn basic_of(jobs: Jobs) -> Basic {
-    match jobs {
-        Jobs::Every { job, period } => Left(Every { job, period }),
-        Jobs::Heavy {
-            job,
-            heavy,
-            among,
-            period,
-        } => Right(Heavy {
-            job,
-            heavy,
-            among,
-            period,
-        }),
+// How the answers for a set differ.
+#[derive(Clone, Copy)]
+enum Difference {
+    Scan,
+    BetterPlan,
+    OwnPlan,
+}
+
+impl fmt::Display for Difference {
+    fn fmt<W: fmt::Write>(&self, f: &mut fmt::Formatter<W>) -> fmt::Result {
+        f.write_str(match self {
+            Difference::Scan => "the scan answers otherwise",
+            Difference::BetterPlan => "some plan is better",
+            Difference::OwnPlan => "the vectors do not give the bounds",
+        })
+    }
+}
+
+impl From<Jobs> for Basic {
+    fn from(jobs: Jobs) -> Basic {
+        match jobs {
+            Jobs::Every { job, period } => Left(Every { job, period }),
+            Jobs::Heavy {
+                job,
+                heavy,
+                among,
+                period,
+            } => Right(Heavy {
+                job,
+                heavy,
+                among,
+                period,
+            }),
+        }
+    }
+}
+
+impl From<plain::Factor> for Factor {
+    fn from(factor: plain::Factor) -> Factor {
+        Factor {
+            numerator: factor.numerator,
+            denominator: factor.denominator,
+        }
+    }
+}
+
+impl From<Late> for JudgeRefusal {
+    fn from(late: Late) -> JudgeRefusal {
+        JudgeRefusal::Late(late.number)
     }
 }
 
@@ -53,29 +92,27 @@ fn under<K>(layer: Layer, kind: K) -> Either<K, Either<Delayed<K>, Slowed<K>>> {
     match layer {
         Layer::Bare => Left(kind),
         Layer::Late(delay) => Right(Left(Delayed { kind, delay })),
-        Layer::Slow(numerator, denominator) => Right(Right(Slowed {
+        Layer::Slow(factor) => Right(Right(Slowed {
             kind,
-            factor: Factor {
-                numerator,
-                denominator,
-            },
+            factor: Factor::from(factor),
         })),
     }
 }
 
-fn task_of(row: &Plain) -> Task<TwoLayers> {
-    let inner = under(row.kind.inner, basic_of(row.kind.jobs));
-    let kind = under(row.kind.outer, inner);
-    let sections = row.sections;
-    let row = Row {
-        number: row.number,
-        priority: row.priority,
-        suspension: row.suspension,
-        suspensions: row.suspensions,
-        deadline: row.deadline,
-        sections,
-    };
-    Task { row, kind }
+impl From<&Plain> for Task<TwoLayers> {
+    fn from(plain: &Plain) -> Task<TwoLayers> {
+        let row = Row {
+            number: plain.number,
+            priority: plain.priority,
+            suspension: plain.suspension.length,
+            suspensions: plain.suspension.times,
+            deadline: plain.deadline,
+            sections: plain.sections,
+        };
+        let inner = under(plain.kind.inner, Basic::from(plain.kind.jobs));
+        let kind = under(plain.kind.outer, inner);
+        Task { row, kind }
+    }
 }
 
 fn some_rows(heap: Global, random: &mut Random) -> Result<Vec<Plain>, AllocError> {
@@ -92,18 +129,9 @@ fn some_rows(heap: Global, random: &mut Random) -> Result<Vec<Plain>, AllocError
 fn pass_rows(heap: Global, random: &mut Random, rows: &[Plain]) -> Result<Passed, AllocError> {
     let empty = random.place(rows.len());
     let comes = random.one_in(3);
-    let mut places = Vec::new(heap);
-    let mut newcomer = None;
-    for (place, row) in rows.iter().enumerate() {
-        if place == empty {
-            places.push(None)?;
-        }
-        if comes && place.saturating_add(1) == rows.len() {
-            newcomer = Some(task_of(row));
-        } else {
-            places.push(Some(task_of(row)))?;
-        }
-    }
+    let mut places: Vec<_> = rows.iter().map(|row| Some(Task::from(row))).collect(heap)?;
+    places.insert(empty, None)?;
+    let newcomer = if comes { places.pop().flatten() } else { None };
     Ok(Passed { places, newcomer })
 }
 
@@ -111,114 +139,65 @@ fn pass_rows(heap: Global, random: &mut Random, rows: &[Plain]) -> Result<Passed
 fn judged(heap: Global, set: &Passed) -> Result<Verdict, AllocError> {
     let answers = match judge(set.places.as_slice(), &set.newcomer) {
         Ok(answers) => answers,
-        Err(JudgeRefusal::Late(number)) => return Ok(Verdict::Late(number)),
-        Err(JudgeRefusal::TooMany) => return Ok(Verdict::TooMany),
+        Err(refusal) => return Ok(Err(refusal)),
     };
-    let mut found = Vec::new(heap);
-    for answer in answers.rows() {
-        found.push(Found {
+    let found = answers
+        .rows()
+        .iter()
+        .map(|answer| Found {
             number: answer.number,
             bound: answer.bound,
             vector: answer.vector,
             blocking: answer.blocking,
-        })?;
-    }
-    Ok(Verdict::InTime(found))
+        })
+        .collect(heap)?;
+    Ok(Ok(found))
 }
 
-fn write_found(text: &mut String, found: &Found) -> Result<(), AllocError> {
-    let number = found.number;
-    let bound = found.bound;
-    let vector = found.vector;
-    let blocking = found.blocking;
-    writeln!(text, "row\t{number}\t{bound}\t{vector}\t{blocking}")
-}
-
-// The rows of a report.
-pub(crate) fn write_report(text: &mut String, rows: &[Found]) -> Result<(), AllocError> {
-    for found in rows {
-        write_found(text, found)?;
-    }
-    Ok(())
-}
-
-fn text_of(heap: Global, verdict: &Verdict) -> anyhow::Result<String> {
-    let mut text = String::new(heap);
+fn text_of(heap: Global, verdict: &Verdict) -> Result<String, AllocError> {
     match verdict {
-        Verdict::InTime(rows) => write_report(&mut text, rows.as_slice())?,
-        Verdict::Late(number) => writeln!(text, "late\t{number}")?,
-        Verdict::TooMany => writeln!(text, "too many")?,
+        Ok(found) => report_of(heap, found.as_slice()),
+        Err(JudgeRefusal::Late(number)) => format!(in heap; "late\t{number}\n"),
+        Err(JudgeRefusal::TooMany) => String::from_str(heap, "too many\n"),
     }
-    Ok(text)
 }
 
 // Whether no bound of a plan is smaller than the one that was found.
 fn none_smaller(bounds: &[u32], found: &[Found]) -> bool {
-    for (bound, row) in bounds.iter().zip(found.iter()) {
-        if *bound < row.bound {
-            return false;
-        }
-    }
     bounds.len() == found.len()
-}
-
-fn none_larger(bounds: &[u32], found: &[Found]) -> bool {
-    for (bound, row) in bounds.iter().zip(found.iter()) {
-        if *bound > row.bound {
-            return false;
-        }
-    }
-    true
+        && bounds
+            .iter()
+            .zip(found)
+            .all(|(bound, row)| *bound >= row.bound)
 }
 
 // Whether what was found can be true beside a plan that gives these bounds, or has a late row.
-fn stands_beside(verdict: &Verdict, bounds: Option<Vec<u32>>) -> bool {
-    let Some(bounds) = bounds else {
-        return true;
-    };
-    match verdict {
-        Verdict::InTime(found) => none_smaller(bounds.as_slice(), found.as_slice()),
-        _ => false,
+fn stands_beside(verdict: &Verdict, bounds: &Option<Vec<u32>>) -> bool {
+    match (verdict, bounds) {
+        (_, None) => true,
+        (Ok(found), Some(bounds)) => none_smaller(bounds.as_slice(), found.as_slice()),
+        (Err(_), Some(_)) => false,
     }
 }
 
-// The first plan that speaks against what was found.
-fn contrary_plan(
-    heap: Global,
-    ranks: &[Ranked],
-    verdict: &Verdict,
-) -> Result<Option<u32>, AllocError> {
+// Whether some plan speaks against what was found.
+fn has_better_plan(heap: Global, ranks: &[Ranked], verdict: &Verdict) -> Result<bool, AllocError> {
     for plan in 0..plan_count(ranks.len()) {
         let chosen = plan_vectors(heap, plan, ranks.len())?;
         let bounds = plan_bounds(heap, ranks, chosen.as_slice())?;
-        if !stands_beside(verdict, bounds) {
-            return Ok(Some(plan));
+        if !stands_beside(verdict, &bounds) {
+            return Ok(true);
         }
     }
-    Ok(None)
-}
-
-fn vectors_of(heap: Global, found: &[Found]) -> Result<Vec<u32>, AllocError> {
-    let mut vectors = Vec::new(heap);
-    for row in found {
-        vectors.push(row.vector)?;
-    }
-    Ok(vectors)
+    Ok(false)
 }
 
 // Whether the plan of the vectors that were found gives the bounds that were found.
-fn gives_itself(heap: Global, ranks: &[Ranked], verdict: &Verdict) -> Result<bool, AllocError> {
-    let Verdict::InTime(found) = verdict else {
-        return Ok(true);
-    };
-    let vectors = vectors_of(heap, found.as_slice())?;
-    match plan_bounds(heap, ranks, vectors.as_slice())? {
-        Some(bounds) => Ok(
-            none_smaller(bounds.as_slice(), found.as_slice())
-                && none_larger(bounds.as_slice(), found.as_slice()),
-        ),
-        None => Ok(false),
-    }
+fn gives_itself(heap: Global, ranks: &[Ranked], found: &[Found]) -> Result<bool, AllocError> {
+    let vectors: Vec<u32> = found.iter().map(|row| row.vector).collect(heap)?;
+    let due = found.iter().map(|row| row.bound).collect(heap)?;
+    let bounds = plan_bounds(heap, ranks, vectors.as_slice())?;
+    Ok(bounds == Some(due))
 }
 
 // Prints a set for which two answers differ.
@@ -226,43 +205,37 @@ fn tell(
     rt: &HostRuntime,
     case: Case,
     rows: &[Plain],
-    planner: &str,
-    own: &str,
-    what: &str,
+    planner: &Verdict,
+    own: &Verdict,
+    difference: Difference,
 ) -> anyhow::Result<()> {
-    let seed = case.seed;
-    let index = case.index;
-    println!(rt; "Set {index} of seed {seed}: {what}. The rows:")?;
+    let Case { seed, index } = case;
+    let planner = text_of(rt.alloc(), planner)?;
+    let own = text_of(rt.alloc(), own)?;
+    println!(rt; "Set {index} of seed {seed}: {difference}. The rows:")?;
     for row in rows {
-        row.print(rt)?;
+        println!(rt; "{row:?}")?;
     }
     println!(rt; "The planner:\n{planner}The scan:\n{own}")?;
     Ok(())
 }
 
 // What the answers for a set differ in, if in anything.
-fn difference(
+fn find_difference(
     heap: Global,
     ranks: &[Ranked],
-    verdict: &Verdict,
-    same: bool,
-) -> Result<Option<&'static str>, AllocError> {
-    if !same {
-        return Ok(Some("the scan answers otherwise"));
+    planner: &Verdict,
+    own: &Verdict,
+) -> Result<Option<Difference>, AllocError> {
+    if planner != own {
+        return Ok(Some(Difference::Scan));
     }
-    if contrary_plan(heap, ranks, verdict)?.is_some() {
-        return Ok(Some("some plan is better"));
+    if has_better_plan(heap, ranks, planner)? {
+        return Ok(Some(Difference::BetterPlan));
     }
-    if !gives_itself(heap, ranks, verdict)? {
-        return Ok(Some("the vectors do not give the bounds"));
-    }
-    Ok(None)
-}
-
-fn is_late(verdict: &Verdict) -> bool {
-    match verdict {
-        Verdict::Late(_) => true,
-        _ => false,
+    match planner {
+        Ok(found) if !gives_itself(heap, ranks, found.as_slice())? => Ok(Some(Difference::OwnPlan)),
+        _ => Ok(None),
     }
 }
 
@@ -272,25 +245,15 @@ pub(crate) fn compare_set(rt: &HostRuntime, case: Case) -> anyhow::Result<SetSee
     let mut random = Random::new(case);
     let rows = some_rows(heap, &mut random)?;
     let set = pass_rows(heap, &mut random, rows.as_slice())?;
-    let verdict = judged(heap, &set)?;
+    let planner = judged(heap, &set)?;
     let ranks = rank_rows(heap, rows.as_slice())?;
-    let planner = text_of(heap, &verdict)?;
-    let scanned = scan_rows(heap, ranks.as_slice())?;
-    let own = text_of(heap, &scanned)?;
-    let same = planner.as_str() == own.as_str();
-    if let Some(what) = difference(heap, ranks.as_slice(), &verdict, same)? {
-        tell(
-            rt,
-            case,
-            rows.as_slice(),
-            planner.as_str(),
-            own.as_str(),
-            what,
-        )?;
+    let own = scan_rows(heap, ranks.as_slice())?.map_err(JudgeRefusal::from);
+    if let Some(difference) = find_difference(heap, ranks.as_slice(), &planner, &own)? {
+        tell(rt, case, rows.as_slice(), &planner, &own, difference)?;
         return Err(anyhow!("a set differs"));
     }
     Ok(SetSeen {
-        late: is_late(&verdict),
+        late: matches!(planner, Err(JudgeRefusal::Late(_))),
         plans: plan_count(ranks.len()),
     })
 }

@@ -18,215 +18,263 @@ row\t3\t10\t0\t0\t40\t0\t2\t0\t0\t0\t0\t0\t0\t0\tevery\t5\t40\n";
 
 const GARAGE_REPORT: &[u8] = b"row\t1\t9\t0\t4\nrow\t2\t9\t0\t2\nrow\t3\t14\t2\t0\n";
 
-// A fault's number, line, field and late row.
-type Blame = (u32, u32, u32, u32);
-
-const NONE: Blame = (0, 0, 0, 0);
-
-fn blame(fault: Fault) -> Blame {
-    (fault.number(), fault.line(), fault.field(), fault.late())
+// What a fault says: the numbers of its check, line, field and late row, where 0 says that none is to blame.
+#[derive(Clone, Copy, PartialEq, Eq, Debug)]
+struct Blame {
+    check: u32,
+    line: u32,
+    field: u32,
+    late: u32,
 }
 
-// A call's answer: the length of what was written, and what is blamed.
-fn said(answer: Result<usize, Fault>) -> (usize, Blame) {
-    match answer {
-        Ok(length) => (length, NONE),
-        Err(fault) => (0, blame(fault)),
+impl From<Fault> for Blame {
+    fn from(fault: Fault) -> Blame {
+        Blame {
+            check: fault.number(),
+            line: fault.line(),
+            field: fault.field(),
+            late: fault.late(),
+        }
     }
 }
 
-// What a file is refused for.
-fn refused_for(file: &[u8]) -> Blame {
+// A fault of the file as a whole.
+fn file(check: u32) -> Blame {
+    line(check, 0)
+}
+
+// A fault of a line as a whole.
+fn line(check: u32, line: u32) -> Blame {
+    field(check, line, 0)
+}
+
+// A fault of a field of a line.
+fn field(check: u32, line: u32, field: u32) -> Blame {
+    Blame {
+        check,
+        line,
+        field,
+        late: 0,
+    }
+}
+
+// A fault of a line with which a row is late.
+fn late(check: u32, line: u32, late: u32) -> Blame {
+    Blame {
+        check,
+        line,
+        field: 0,
+        late,
+    }
+}
+
+// A call's answer: the length of what was written, or what is blamed.
+fn said(answer: Result<usize, Fault>) -> Result<usize, Blame> {
+    answer.map_err(Blame::from)
+}
+
+// What a file is refused for, if it is refused.
+fn refused_for(file: &[u8]) -> Option<Blame> {
     let mut text = [0; REPORT_MEMORY];
-    let (_, blame) = said(load(file, &mut text));
-    blame
+    said(load(file, &mut text)).err()
 }
 
 // What a file is refused for that has a clock line and then these lines.
-fn rows_refused_for(heap: Global, lines: &[u8]) -> Result<Blame, AllocError> {
-    let mut file = CLOCK.to_vec(heap)?;
-    file.extend_from_slice(lines)?;
+fn rows_refused_for(heap: Global, lines: &[u8]) -> Result<Option<Blame>, AllocError> {
+    let file = [CLOCK, lines].concat(heap)?;
     Ok(refused_for(file.as_slice()))
 }
 
 // What a file is refused for that has one row line: a row and its kind.
-fn kind_refused_for(heap: Global, kind: &[u8]) -> Result<Blame, AllocError> {
-    let mut line = ROW.to_vec(heap)?;
-    line.extend_from_slice(kind)?;
+fn kind_refused_for(heap: Global, kind: &[u8]) -> Result<Option<Blame>, AllocError> {
+    let line = [ROW, kind].concat(heap)?;
     rows_refused_for(heap, line.as_slice())
 }
 
 // A clock line with so many zeros before the first of its numbers.
 fn padded(heap: Global, zeros: usize) -> Result<Vec<u8>, AllocError> {
-    let mut file = b"clock\t".to_vec(heap)?;
-    for _ in 0..zeros {
-        file.push(b'0')?;
-    }
-    file.extend_from_slice(b"1\t1\n")?;
-    Ok(file)
+    let zeros = b"0".repeat(heap, zeros)?;
+    [b"clock\t".as_slice(), zeros.as_slice(), b"1\t1\n"].concat(heap)
 }
 
 // A row line of at least sixteen fields. All behind the word are 10.
 fn line_of(heap: Global, word: &[u8], fields: usize) -> Result<Vec<u8>, AllocError> {
-    let mut line = ROW.to_vec(heap)?;
-    line.push(b'\t')?;
-    line.extend_from_slice(word)?;
-    for _ in 16..fields {
-        line.extend_from_slice(b"\t10")?;
-    }
-    line.push(b'\n')?;
-    Ok(line)
+    let behind = b"\t10".repeat(heap, fields.saturating_sub(16))?;
+    [ROW, b"\t", word, behind.as_slice(), b"\n"].concat(heap)
 }
 
 // A file of so many rows. Number and priority of the first are 10, and so on.
-fn many_rows(heap: Global, rows: u32) -> Result<Vec<u8>, AllocError> {
+fn many_rows(heap: Global, rows: usize) -> Result<Vec<u8>, AllocError> {
     let mut text = String::from_str(heap, "clock\t1\t1\n")?;
-    for i in 0..rows {
-        let n = i.saturating_add(10);
-        let row = format!(in heap;
+    for n in (10u32..).take(rows) {
+        write!(
+            text,
             "row\t{n}\t{n}\t0\t0\t900\t0\t0\t0\t0\t0\t0\t0\t0\t0\tevery\t1\t1000\n"
         )?;
-        text.push_str(row.as_str())?;
     }
-    text.as_bytes().to_vec(heap)
+    Ok(text.into_bytes())
 }
 
 // All bytes are the mark that stood there before.
 fn check_untouched(rt: &impl Abort, bytes: &[u8]) {
-    for byte in bytes {
-        assert_eq!(rt; *byte, b'#');
-    }
+    assert!(rt; bytes.iter().all(|byte| *byte == b'#'));
 }
 
 #[test]
 fn a_file_without_lines(rt: HostRuntime) {
-    assert_eq!(rt; refused_for(b""), (18, 0, 0, 0));
-    assert_eq!(rt; refused_for(b"\n"), (17, 1, 1, 0));
-    assert_eq!(rt; refused_for(b"\t\t\n"), (17, 1, 1, 0));
+    assert_eq!(rt; refused_for(b""), Some(file(18)));
+    assert_eq!(rt; refused_for(b"\n"), Some(field(17, 1, 1)));
+    assert_eq!(rt; refused_for(b"\t\t\n"), Some(field(17, 1, 1)));
 }
 
 #[test]
 fn a_newline_ends_the_file(rt: HostRuntime) {
-    assert_eq!(rt; refused_for(b"clock\t1\t1"), (18, 0, 0, 0));
-    assert_eq!(rt; refused_for(b"clock\t1\t1\n\0"), (18, 0, 0, 0));
-    assert_eq!(rt; refused_for(b"clock\t1\t1\n"), NONE);
-    assert_eq!(rt; refused_for(b"clock\t1\t1\n\n"), (17, 2, 1, 0));
+    assert_eq!(rt; refused_for(b"clock\t1\t1"), Some(file(18)));
+    assert_eq!(rt; refused_for(b"clock\t1\t1\n\0"), Some(file(18)));
+    assert_eq!(rt; refused_for(b"clock\t1\t1\n"), None);
+    assert_eq!(rt; refused_for(b"clock\t1\t1\n\n"), Some(field(17, 2, 1)));
 }
 
 #[test]
 fn at_most_4096_bytes(rt: HostRuntime) -> Result<(), Fail> {
     let longest = padded(rt.alloc(), 4086)?;
     assert_eq!(rt; longest.len(), LONGEST_FILE);
-    assert_eq!(rt; refused_for(longest.as_slice()), NONE);
+    assert_eq!(rt; refused_for(longest.as_slice()), None);
     let longer = padded(rt.alloc(), 4087)?;
-    assert_eq!(rt; refused_for(longer.as_slice()), (18, 0, 0, 0));
+    assert_eq!(rt; refused_for(longer.as_slice()), Some(file(18)));
     Ok(())
 }
 
 #[test]
 fn foreign_bytes(rt: HostRuntime) {
-    assert_eq!(rt; refused_for(b"clock\0\t1\t1\n"), (17, 1, 1, 0));
-    assert_eq!(rt; refused_for(b"clock\t1\t1\0\n"), (16, 1, 3, 0));
-    assert_eq!(rt; refused_for(b"\xef\xbb\xbfclock\t1\t1\n"), (17, 1, 1, 0));
-    assert_eq!(rt; refused_for(b"clock\t\xd9\xa1\t1\n"), (16, 1, 2, 0));
-    assert_eq!(rt; refused_for(b"clock\t1\t\xff\n"), (16, 1, 3, 0));
-    assert_eq!(rt; refused_for(b"clock\t1\t1\r\n"), (16, 1, 3, 0));
-    assert_eq!(rt; refused_for(b"clock\t1\t1\r"), (18, 0, 0, 0));
+    assert_eq!(rt; refused_for(b"clock\0\t1\t1\n"), Some(field(17, 1, 1)));
+    assert_eq!(rt; refused_for(b"clock\t1\t1\0\n"), Some(field(16, 1, 3)));
+    assert_eq!(rt;
+        refused_for(b"\xef\xbb\xbfclock\t1\t1\n"),
+        Some(field(17, 1, 1))
+    );
+    assert_eq!(rt; refused_for(b"clock\t\xd9\xa1\t1\n"), Some(field(16, 1, 2)));
+    assert_eq!(rt; refused_for(b"clock\t1\t\xff\n"), Some(field(16, 1, 3)));
+    assert_eq!(rt; refused_for(b"clock\t1\t1\r\n"), Some(field(16, 1, 3)));
+    assert_eq!(rt; refused_for(b"clock\t1\t1\r"), Some(file(18)));
 }
 
 #[test]
 fn empty_fields(rt: HostRuntime) {
-    assert_eq!(rt; refused_for(b"\t1\t1\n"), (17, 1, 1, 0));
-    assert_eq!(rt; refused_for(b"clock\t\t1\n"), (16, 1, 2, 0));
-    assert_eq!(rt; refused_for(b"clock\t1\t\n"), (16, 1, 3, 0));
-    assert_eq!(rt; refused_for(b"clock\t1\t1\t\n"), (15, 1, 0, 0));
-    assert_eq!(rt; refused_for(b"clock\t1\t\t1\n"), (15, 1, 0, 0));
+    assert_eq!(rt; refused_for(b"\t1\t1\n"), Some(field(17, 1, 1)));
+    assert_eq!(rt; refused_for(b"clock\t\t1\n"), Some(field(16, 1, 2)));
+    assert_eq!(rt; refused_for(b"clock\t1\t\n"), Some(field(16, 1, 3)));
+    assert_eq!(rt; refused_for(b"clock\t1\t1\t\n"), Some(line(15, 1)));
+    assert_eq!(rt; refused_for(b"clock\t1\t\t1\n"), Some(line(15, 1)));
 }
 
 #[test]
 fn digits_alone_are_a_number(rt: HostRuntime) {
-    assert_eq!(rt; refused_for(b"clock\t+1\t1\n"), (16, 1, 2, 0));
-    assert_eq!(rt; refused_for(b"clock\t-1\t1\n"), (16, 1, 2, 0));
-    assert_eq!(rt; refused_for(b"clock\t1\t 1\n"), (16, 1, 3, 0));
-    assert_eq!(rt; refused_for(b"clock\t1 \t1\n"), (16, 1, 2, 0));
-    assert_eq!(rt; refused_for(b"clock\t0x1\t1\n"), (16, 1, 2, 0));
-    assert_eq!(rt; refused_for(b"clock\t/\t:\n"), (16, 1, 2, 0));
+    assert_eq!(rt; refused_for(b"clock\t+1\t1\n"), Some(field(16, 1, 2)));
+    assert_eq!(rt; refused_for(b"clock\t-1\t1\n"), Some(field(16, 1, 2)));
+    assert_eq!(rt; refused_for(b"clock\t1\t 1\n"), Some(field(16, 1, 3)));
+    assert_eq!(rt; refused_for(b"clock\t1 \t1\n"), Some(field(16, 1, 2)));
+    assert_eq!(rt; refused_for(b"clock\t0x1\t1\n"), Some(field(16, 1, 2)));
+    assert_eq!(rt; refused_for(b"clock\t/\t:\n"), Some(field(16, 1, 2)));
 }
 
 #[test]
 fn zeros_before_a_digit(rt: HostRuntime) -> Result<(), Fail> {
     let file = padded(rt.alloc(), 4000)?;
-    assert_eq!(rt; refused_for(file.as_slice()), NONE);
+    assert_eq!(rt; refused_for(file.as_slice()), None);
     Ok(())
 }
 
 #[test]
 fn numbers_up_to_4294967295(rt: HostRuntime) {
-    assert_eq!(rt; refused_for(b"clock\t4294967295\t1\n"), (4, 1, 0, 0));
-    assert_eq!(rt; refused_for(b"clock\t4294967296\t1\n"), (16, 1, 2, 0));
-    assert_eq!(rt; refused_for(b"clock\t1\t4294967297\n"), (16, 1, 3, 0));
+    assert_eq!(rt; refused_for(b"clock\t4294967295\t1\n"), Some(line(4, 1)));
+    assert_eq!(rt;
+        refused_for(b"clock\t4294967296\t1\n"),
+        Some(field(16, 1, 2))
+    );
+    assert_eq!(rt;
+        refused_for(b"clock\t1\t4294967297\n"),
+        Some(field(16, 1, 3))
+    );
     assert_eq!(rt;
         refused_for(b"clock\t18446744073709551617\t1\n"),
-        (16, 1, 2, 0)
+        Some(field(16, 1, 2))
     );
 }
 
 #[test]
 fn factors_of_a_clock(rt: HostRuntime) {
-    assert_eq!(rt; refused_for(b"clock\t1\t2\n"), (4, 1, 0, 0));
-    assert_eq!(rt; refused_for(b"clock\t0\t0\n"), (4, 1, 0, 0));
-    assert_eq!(rt; refused_for(b"clock\t1\t0\n"), (4, 1, 0, 0));
-    assert_eq!(rt; refused_for(b"clock\t1000\t1\n"), NONE);
-    assert_eq!(rt; refused_for(b"clock\t1000\t1000\n"), NONE);
-    assert_eq!(rt; refused_for(b"clock\t1001\t1\n"), (4, 1, 0, 0));
+    assert_eq!(rt; refused_for(b"clock\t1\t2\n"), Some(line(4, 1)));
+    assert_eq!(rt; refused_for(b"clock\t0\t0\n"), Some(line(4, 1)));
+    assert_eq!(rt; refused_for(b"clock\t1\t0\n"), Some(line(4, 1)));
+    assert_eq!(rt; refused_for(b"clock\t1000\t1\n"), None);
+    assert_eq!(rt; refused_for(b"clock\t1000\t1000\n"), None);
+    assert_eq!(rt; refused_for(b"clock\t1001\t1\n"), Some(line(4, 1)));
 }
 
 #[test]
 fn order_on_a_clock_line(rt: HostRuntime) {
-    assert_eq!(rt; refused_for(b"Clock\tx\n"), (17, 1, 1, 0));
-    assert_eq!(rt; refused_for(b"clock\tx\n"), (15, 1, 0, 0));
-    assert_eq!(rt; refused_for(b"clock\tx\ty\n"), (16, 1, 2, 0));
-    assert_eq!(rt; refused_for(b"clock\t1\ty\n"), (16, 1, 3, 0));
+    assert_eq!(rt; refused_for(b"Clock\tx\n"), Some(field(17, 1, 1)));
+    assert_eq!(rt; refused_for(b"clock\tx\n"), Some(line(15, 1)));
+    assert_eq!(rt; refused_for(b"clock\tx\ty\n"), Some(field(16, 1, 2)));
+    assert_eq!(rt; refused_for(b"clock\t1\ty\n"), Some(field(16, 1, 3)));
 }
 
 #[test]
 fn words(rt: HostRuntime) -> Result<(), Fail> {
     let heap = rt.alloc();
-    assert_eq!(rt; rows_refused_for(heap, b"Row\n")?, (17, 2, 1, 0));
-    assert_eq!(rt; rows_refused_for(heap, b"rows\n")?, (17, 2, 1, 0));
-    assert_eq!(rt; rows_refused_for(heap, b" row\n")?, (17, 2, 1, 0));
-    assert_eq!(rt; rows_refused_for(heap, b"row\n")?, (15, 2, 0, 0));
-    assert_eq!(rt; rows_refused_for(heap, CLOCK)?, (17, 2, 1, 0));
+    assert_eq!(rt; rows_refused_for(heap, b"Row\n")?, Some(field(17, 2, 1)));
+    assert_eq!(rt; rows_refused_for(heap, b"rows\n")?, Some(field(17, 2, 1)));
+    assert_eq!(rt; rows_refused_for(heap, b" row\n")?, Some(field(17, 2, 1)));
+    assert_eq!(rt; rows_refused_for(heap, b"row\n")?, Some(line(15, 2)));
+    assert_eq!(rt; rows_refused_for(heap, CLOCK)?, Some(field(17, 2, 1)));
     assert_eq!(rt;
         kind_refused_for(heap, b"\tevery\t1\t10\nclock\t1\t1\n")?,
-        (17, 3, 1, 0)
+        Some(field(17, 3, 1))
     );
     assert_eq!(rt;
         kind_refused_for(heap, b"\tEvery\t1\t10\n")?,
-        (17, 2, 16, 0)
+        Some(field(17, 2, 16))
     );
     assert_eq!(rt;
         kind_refused_for(heap, b"\tevery \t1\t10\n")?,
-        (17, 2, 16, 0)
+        Some(field(17, 2, 16))
     );
-    assert_eq!(rt; kind_refused_for(heap, b"\trow\t1\t10\n")?, (17, 2, 16, 0));
-    assert_eq!(rt; kind_refused_for(heap, b"\t\t1\t10\n")?, (17, 2, 16, 0));
+    assert_eq!(rt;
+        kind_refused_for(heap, b"\trow\t1\t10\n")?,
+        Some(field(17, 2, 16))
+    );
+    assert_eq!(rt;
+        kind_refused_for(heap, b"\t\t1\t10\n")?,
+        Some(field(17, 2, 16))
+    );
     Ok(())
 }
 
 #[test]
 fn fields_of_a_row_line(rt: HostRuntime) -> Result<(), Fail> {
     let heap = rt.alloc();
-    assert_eq!(rt; kind_refused_for(heap, b"\n")?, (15, 2, 0, 0));
+    assert_eq!(rt; kind_refused_for(heap, b"\n")?, Some(line(15, 2)));
     for fields in 16..22 {
         let every = line_of(heap, b"every", fields)?;
-        let due = if fields == 18 { NONE } else { (15, 2, 0, 0) };
+        let due = if fields == 18 {
+            None
+        } else {
+            Some(line(15, 2))
+        };
         assert_eq!(rt; rows_refused_for(heap, every.as_slice())?, due);
         let heavy = line_of(heap, b"heavy", fields)?;
-        let due = if fields == 20 { NONE } else { (15, 2, 0, 0) };
+        let due = if fields == 20 {
+            None
+        } else {
+            Some(line(15, 2))
+        };
         assert_eq!(rt; rows_refused_for(heap, heavy.as_slice())?, due);
         let neither = line_of(heap, b"seldom", fields)?;
-        assert_eq!(rt; rows_refused_for(heap, neither.as_slice())?, (17, 2, 16, 0));
+        assert_eq!(rt;
+            rows_refused_for(heap, neither.as_slice())?,
+            Some(field(17, 2, 16))
+        );
     }
     Ok(())
 }
@@ -236,14 +284,20 @@ fn fields_of_a_row_line(rt: HostRuntime) -> Result<(), Fail> {
 fn the_leftmost_field(rt: HostRuntime) -> Result<(), Fail> {
     let heap = rt.alloc();
     let all = b"row\tx\t1\t0\t0\t10\t0\t0\t0\t0\t0\t0\t0\t0\tx\tevery\tx\tx\n";
-    assert_eq!(rt; rows_refused_for(heap, all)?, (16, 2, 2, 0));
+    assert_eq!(rt; rows_refused_for(heap, all)?, Some(field(16, 2, 2)));
     let three = b"row\t0\t1\t0\t0\t10\t0\t0\t0\t0\t0\t0\t0\t0\tx\tevery\tx\tx\n";
-    assert_eq!(rt; rows_refused_for(heap, three)?, (16, 2, 15, 0));
-    assert_eq!(rt; kind_refused_for(heap, b"\tevery\tx\tx\n")?, (16, 2, 17, 0));
-    assert_eq!(rt; kind_refused_for(heap, b"\tevery\t0\tx\n")?, (16, 2, 18, 0));
+    assert_eq!(rt; rows_refused_for(heap, three)?, Some(field(16, 2, 15)));
+    assert_eq!(rt;
+        kind_refused_for(heap, b"\tevery\tx\tx\n")?,
+        Some(field(16, 2, 17))
+    );
+    assert_eq!(rt;
+        kind_refused_for(heap, b"\tevery\t0\tx\n")?,
+        Some(field(16, 2, 18))
+    );
     assert_eq!(rt;
         kind_refused_for(heap, b"\theavy\t0\t0\t0\tx\n")?,
-        (16, 2, 20, 0)
+        Some(field(16, 2, 20))
     );
     Ok(())
 }
@@ -253,23 +307,23 @@ fn the_leftmost_field(rt: HostRuntime) -> Result<(), Fail> {
 fn order_of_the_numbers(rt: HostRuntime) -> Result<(), Fail> {
     let heap = rt.alloc();
     let first = b"row\t0\t0\t0\t1\t0\t9\t9\t0\t0\t0\t0\t0\t0\t0\tevery\t0\t0\n";
-    assert_eq!(rt; rows_refused_for(heap, first)?, (1, 2, 0, 0));
+    assert_eq!(rt; rows_refused_for(heap, first)?, Some(line(1, 2)));
     let second = b"row\t0\t0\t0\t1\t0\t9\t9\t0\t0\t0\t0\t0\t0\t0\tevery\t8\t0\n";
-    assert_eq!(rt; rows_refused_for(heap, second)?, (2, 2, 0, 0));
+    assert_eq!(rt; rows_refused_for(heap, second)?, Some(line(2, 2)));
     let third = b"row\t0\t0\t0\t1\t0\t9\t9\t0\t0\t0\t0\t0\t0\t0\tevery\t8\t9\n";
-    assert_eq!(rt; rows_refused_for(heap, third)?, (3, 2, 0, 0));
+    assert_eq!(rt; rows_refused_for(heap, third)?, Some(line(3, 2)));
     let fifth = b"row\t0\t0\t0\t1\t0\t8\t9\t0\t0\t0\t0\t0\t0\t0\tevery\t8\t9\n";
-    assert_eq!(rt; rows_refused_for(heap, fifth)?, (5, 2, 0, 0));
+    assert_eq!(rt; rows_refused_for(heap, fifth)?, Some(line(5, 2)));
     let sixth = b"row\t1\t0\t0\t1\t0\t8\t9\t0\t0\t0\t0\t0\t0\t0\tevery\t8\t9\n";
-    assert_eq!(rt; rows_refused_for(heap, sixth)?, (6, 2, 0, 0));
+    assert_eq!(rt; rows_refused_for(heap, sixth)?, Some(line(6, 2)));
     let seventh = b"row\t1\t1\t0\t1\t0\t8\t9\t0\t0\t0\t0\t0\t0\t0\tevery\t8\t9\n";
-    assert_eq!(rt; rows_refused_for(heap, seventh)?, (7, 2, 0, 0));
+    assert_eq!(rt; rows_refused_for(heap, seventh)?, Some(line(7, 2)));
     let eighth = b"row\t1\t1\t1\t1\t0\t8\t9\t0\t0\t0\t0\t0\t0\t0\tevery\t8\t9\n";
-    assert_eq!(rt; rows_refused_for(heap, eighth)?, (8, 2, 0, 0));
+    assert_eq!(rt; rows_refused_for(heap, eighth)?, Some(line(8, 2)));
     let ninth = b"row\t1\t1\t1\t1\t1\t8\t9\t0\t0\t0\t0\t0\t0\t0\tevery\t8\t9\n";
-    assert_eq!(rt; rows_refused_for(heap, ninth)?, (9, 2, 0, 0));
+    assert_eq!(rt; rows_refused_for(heap, ninth)?, Some(line(9, 2)));
     let eleventh = b"row\t1\t1\t1\t1\t1\t8\t8\t0\t0\t0\t0\t0\t0\t0\tevery\t8\t9\n";
-    assert_eq!(rt; rows_refused_for(heap, eleventh)?, (11, 2, 0, 1));
+    assert_eq!(rt; rows_refused_for(heap, eleventh)?, Some(late(11, 2, 1)));
     Ok(())
 }
 
@@ -277,46 +331,46 @@ fn order_of_the_numbers(rt: HostRuntime) -> Result<(), Fail> {
 #[test]
 fn a_section_as_long_as_the_slowed_job(rt: HostRuntime) {
     let five = b"clock\t3\t2\nrow\t1\t1\t0\t0\t10\t0\t0\t0\t0\t0\t0\t0\t0\t5\tevery\t3\t10\n";
-    assert_eq!(rt; refused_for(five), NONE);
+    assert_eq!(rt; refused_for(five), None);
     let six = b"clock\t3\t2\nrow\t1\t1\t0\t0\t10\t0\t0\t0\t0\t0\t0\t0\t0\t6\tevery\t3\t10\n";
-    assert_eq!(rt; refused_for(six), (9, 2, 0, 0));
+    assert_eq!(rt; refused_for(six), Some(line(9, 2)));
 }
 
 #[test]
 fn a_deadline_of_the_period_less_the_delay(rt: HostRuntime) -> Result<(), Fail> {
     let heap = rt.alloc();
     let six = b"row\t1\t1\t0\t0\t6\t4\t0\t0\t0\t0\t0\t0\t0\t0\tevery\t3\t10\n";
-    assert_eq!(rt; rows_refused_for(heap, six)?, NONE);
+    assert_eq!(rt; rows_refused_for(heap, six)?, None);
     let seven = b"row\t1\t1\t0\t0\t7\t4\t0\t0\t0\t0\t0\t0\t0\t0\tevery\t3\t10\n";
-    assert_eq!(rt; rows_refused_for(heap, seven)?, (8, 2, 0, 0));
+    assert_eq!(rt; rows_refused_for(heap, seven)?, Some(line(8, 2)));
     Ok(())
 }
 
 #[test]
 fn at_most_twelve_rows(rt: HostRuntime) -> Result<(), Fail> {
     let twelve = many_rows(rt.alloc(), 12)?;
-    assert_eq!(rt; refused_for(twelve.as_slice()), NONE);
+    assert_eq!(rt; refused_for(twelve.as_slice()), None);
     let thirteen = many_rows(rt.alloc(), 13)?;
-    assert_eq!(rt; refused_for(thirteen.as_slice()), (10, 14, 0, 0));
+    assert_eq!(rt; refused_for(thirteen.as_slice()), Some(line(10, 14)));
     Ok(())
 }
 
 #[test]
 fn report_memory_of_511_bytes(rt: HostRuntime) {
     let mut text = [b'#'; 511];
-    assert_eq!(rt; said(load(GARAGE, &mut text)), (0, (19, 0, 0, 0)));
+    assert_eq!(rt; said(load(GARAGE, &mut text)), Err(file(19)));
     check_untouched(&rt, &text);
     // before a fault of the file
-    assert_eq!(rt; said(load(b"", &mut text)), (0, (19, 0, 0, 0)));
+    assert_eq!(rt; said(load(b"", &mut text)), Err(file(19)));
 }
 
 #[test]
 fn report_memory_of_512_bytes(rt: HostRuntime) {
     let mut text = [b'#'; 512];
-    assert_eq!(rt; said(load(b"clock\t1\t2\n", &mut text)), (0, (4, 1, 0, 0)));
+    assert_eq!(rt; said(load(b"clock\t1\t2\n", &mut text)), Err(line(4, 1)));
     check_untouched(&rt, &text);
     let length = GARAGE_REPORT.len();
-    assert_eq!(rt; said(load(GARAGE, &mut text)), (length, NONE));
+    assert_eq!(rt; said(load(GARAGE, &mut text)), Ok(length));
     assert_eq!(rt; text.get(0..length), Some(GARAGE_REPORT));
 }
 
@@ -324,7 +378,7 @@ fn report_memory_of_512_bytes(rt: HostRuntime) {
 fn report_memory_of_600_bytes(rt: HostRuntime) -> Result<(), Fail> {
     let mut text = [b'#'; 600];
     let length = GARAGE_REPORT.len();
-    assert_eq!(rt; said(load(GARAGE, &mut text)), (length, NONE));
+    assert_eq!(rt; said(load(GARAGE, &mut text)), Ok(length));
     assert_eq!(rt; text.get(0..length), Some(GARAGE_REPORT));
     check_untouched(&rt, text.get(length..600).ok_or("too short")?);
     Ok(())
@@ -333,15 +387,12 @@ fn report_memory_of_600_bytes(rt: HostRuntime) -> Result<(), Fail> {
 #[test]
 fn refusal_memory(rt: HostRuntime) -> Result<(), Fail> {
     let mut short = [b'#'; 511];
-    assert_eq!(rt;
-        said(write_refusal(Fault::File, &mut short)),
-        (0, (19, 0, 0, 0))
-    );
+    assert_eq!(rt; said(write_refusal(Fault::File, &mut short)), Err(file(19)));
     check_untouched(&rt, &short);
     let line = b"refused\t0\t0\t18\t0\n";
     let length = line.len();
     let mut text = [b'#'; 512];
-    assert_eq!(rt; said(write_refusal(Fault::File, &mut text)), (length, NONE));
+    assert_eq!(rt; said(write_refusal(Fault::File, &mut text)), Ok(length));
     assert_eq!(rt; text.get(0..length), Some(line.as_slice()));
     check_untouched(&rt, text.get(length..512).ok_or("too short")?);
     Ok(())

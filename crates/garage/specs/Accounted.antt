@@ -17,3 +17,10 @@ pub record Holding (t : Table Every) (h : Hold) : Type 0 where
   pub account : Account
   pub agrees : AgreesWith every_demand account t
   pub unspent_yet : unspent h.table h.row account.holds ≡ true
+
+-- that some account agrees, and nothing of which one
+abbrev pub IsAccounted : Table Every → Type 0
+IsAccounted t = ∥ Accounted t ∥₁
+
+abbrev pub IsHolding : Table Every → Hold → Type 0
+IsHolding t h = ∥ Holding t h ∥₁

@@ -1,80 +1,64 @@
-// A table's calls for a program that always spends its holds: a refusal that cannot come is ruled out.
-ghost use Rattle.std.specs.Prelude.{◌≡◌, IfErr, MatchResult};
-ghost use Rattle.garage.specs.Accounted.{Accounted, Holding};
+// A table for a program that always spends its holds: a refusal that cannot come is ruled out.
+ghost use Rattle.std.specs.Prelude.{◌≡◌, IfErr, IfOk};
+ghost use Rattle.garage.specs.Accounted.{IsAccounted, IsHolding};
 
-use analysis::Task;
+use analysis::{Answers, Task};
 use demand::Every;
 use table::{Hold, HoldRefusal, SpendRefusal, Table, WithdrawRefusal};
 
-// Holds a row.
-pub(crate) fn take_in(table: &mut Table<Every>, task: Task<Every>) -> Result<Hold, HoldRefusal>
-    requires { Accounted table.old }
-    ensures { MatchResult result (λ h. Holding table.new h) (λ _. Accounted table.new) }
-{
-    table.hold(task.row, task.kind)
+// A table with which some account agrees.
+#[derive(Drop)]
+pub(crate) struct Desk<'a> {
+    pub(crate) table: Table<'a, Every>,
+    ghost accounted: { IsAccounted table },
 }
 
-// Keeps the row of a hold.
-pub(crate) fn keep(table: &mut Table<Every>, hold: Hold)
-    requires { Holding table.old hold }
-    ensures { Accounted table.new }
-{
-    match table.keep(hold) {
-        Ok(()) => {}
-        Err(_) => unreachable(),
+impl<'a> Desk<'a> {
+    pub(crate) fn new(number: u8, places: &'a mut [Option<Task<Every>>]) -> Desk<'a> {
+        Desk {
+            table: Table::new(number, places),
+        }
     }
-}
 
-// Gives the row of a hold up.
-pub(crate) fn give_up(table: &mut Table<Every>, hold: Hold)
-    requires { Holding table.old hold }
-    ensures { Accounted table.new }
-{
-    match table.release(hold) {
-        Ok(()) => {}
-        Err(_) => unreachable(),
+    // Holds a row.
+    pub(crate) fn take_in(&mut self, task: Task<Every>) -> Result<Hold, HoldRefusal>
+        ensures { IfOk result (λ h. IsHolding self.new.table h) }
+    {
+        self.table.hold(task.row, task.kind)
     }
-}
 
-// Spends a hold by what the card says.
-pub(crate) fn decide(table: &mut Table<Every>, hold: Hold, known: bool)
-    requires { Holding table.old hold }
-    ensures { Accounted table.new }
-{
-    if known {
-        keep(table, hold);
-    } else {
-        give_up(table, hold);
+    // Keeps the row of a hold.
+    pub(crate) fn keep(&mut self, hold: Hold)
+        requires { IsHolding self.old.table hold }
+    {
+        self.table.keep(hold).unwrap();
     }
-}
 
-// Takes a kept row out.
-pub(crate) fn leave(table: &mut Table<Every>, number: u32) -> Result<(), WithdrawRefusal>
-    requires { Accounted table.old }
-    ensures { Accounted table.new }
-{
-    table.withdraw(number)
-}
+    // Gives the row of a hold up.
+    pub(crate) fn give_up(&mut self, hold: Hold)
+        requires { IsHolding self.old.table hold }
+    {
+        self.table.release(hold).unwrap();
+    }
 
-// Asks to take a row out while a hold is open, which stays open.
-pub(crate) fn leave_early(
-    table: &mut Table<Every>,
-    hold: &Hold,
-    number: u32,
-) -> Result<(), WithdrawRefusal>
-    requires { Holding table.old hold.now }
-    ensures { Holding table.new hold.now }
-{
-    table.withdraw(number)
-}
+    // Takes a kept row out. A hold that is open stays open.
+    pub(crate) fn leave(&mut self, number: u32) -> Result<(), WithdrawRefusal>
+        ensures { (h : Hold) → IsHolding self.old.table h → IsHolding self.new.table h }
+    {
+        self.table.withdraw(number)
+    }
 
-// Hands a hold to a table that may not have given it.
-pub(crate) fn hand_to(table: &mut Table<Every>, hold: Hold) -> Result<(), SpendRefusal>
-    requires { Accounted table.old }
-    ensures accounted { Accounted table.new }
-    ensures same { IfErr result (λ e. e ≡ SpendRefusal.NotHeld hold) }
-{
-    table.keep(hold)
+    // Takes a hold that another table may have given.
+    pub(crate) fn hand_over(&mut self, hold: Hold) -> Result<(), SpendRefusal>
+        ensures { IfErr result (λ e. e ≡ SpendRefusal.NotHeld hold) }
+    {
+        self.table.keep(hold)
+    }
+
+    // What is answered for all rows.
+    pub(crate) fn answers(&self) -> Answers {
+        self.table.answers().unwrap()
+    }
 }
 
 // The hold that a refusal hands back.

@@ -5,84 +5,73 @@ mod desk;
 mod rows;
 mod tell;
 
-ghost use Rattle.std.specs.Prelude.{◌≡◌};
-ghost use Rattle.garage.specs.Accounted.{Accounted, Holding};
+ghost use Rattle.garage.specs.Accounted.{IsHolding};
 
 use analysis::Task;
 use demand::Every;
-use desk::{decide, give_up, hand_to, handed_back, keep, leave, leave_early, take_in};
-use rows::{car, card_reader, fast_car, meters, night_car};
+use desk::{Desk, handed_back};
+use rows::{FAST, NIGHT, SLOW, car, card_reader, meters};
 use std::io;
-use table::{Hold, Table};
+use table::Hold;
 use tell::{tell_bounds, tell_refusal, tell_room, tell_rows, tell_state, tell_withdrawal};
 
+// What is found out about the card of a row that is held.
+#[derive(Clone, Copy)]
+enum Card {
+    Known,
+    Unknown,
+}
+
 // A row is held, then kept if the card is known, else released. No print between may return early, since the hold would be lost.
-fn start(
-    rt: &HostRuntime,
-    table: &mut Table<Every>,
-    task: Task<Every>,
-    known: bool,
-) -> io::Result<()>
-    requires { Accounted table.old }
-    ensures { Accounted table.new }
-{
+fn start(rt: &HostRuntime, desk: &mut Desk<'_>, task: Task<Every>, card: Card) -> io::Result<()> {
     let number = task.row.number;
-    match take_in(table, task) {
+    match desk.take_in(task) {
         Ok(hold) => {
-            let told = tell_state(rt, table, number);
-            decide(table, hold, known);
+            let told = tell_state(rt, desk, number);
+            match card {
+                Card::Known => desk.keep(hold),
+                Card::Unknown => desk.give_up(hold),
+            }
             told?;
-            tell_state(rt, table, number)
+            tell_state(rt, desk, number)
         }
         Err(refusal) => tell_refusal(rt, number, refusal),
     }
 }
 
-fn depart(rt: &HostRuntime, table: &mut Table<Every>, number: u32) -> io::Result<()>
-    requires { Accounted table.old }
-    ensures { Accounted table.new }
-{
-    let left = leave(table, number);
+fn depart(rt: &HostRuntime, desk: &mut Desk<'_>, number: u32) -> io::Result<()> {
+    let left = desk.leave(number);
     tell_withdrawal(rt, number, left)
 }
 
-// A row is asked to leave while it is held, and then kept.
-fn depart_early(rt: &HostRuntime, table: &mut Table<Every>, task: Task<Every>) -> io::Result<()>
-    requires { Accounted table.old }
-    ensures { Accounted table.new }
-{
+// A row is asked to leave while it is held, and then kept. One function with `start` would be passed what to do with the
+// hold, and would share the first line and the last arm alone.
+fn depart_early(rt: &HostRuntime, desk: &mut Desk<'_>, task: Task<Every>) -> io::Result<()> {
     let number = task.row.number;
-    match take_in(table, task) {
+    match desk.take_in(task) {
         Ok(hold) => {
-            let held = tell_state(rt, table, number);
-            let left = leave_early(table, &hold, number);
-            keep(table, hold);
+            let held = tell_state(rt, desk, number);
+            let left = desk.leave(number);
+            desk.keep(hold);
             held?;
             tell_withdrawal(rt, number, left)?;
-            tell_state(rt, table, number)
+            tell_state(rt, desk, number)
         }
         Err(refusal) => tell_refusal(rt, number, refusal),
     }
 }
 
 // A hold of another table is handed to this one, which hands it back, and is released where it came from.
-fn mix_up(
-    rt: &HostRuntime,
-    table: &mut Table<Every>,
-    other: &mut Table<Every>,
-    hold: Hold,
-) -> io::Result<()>
-    requires table { Accounted table.old }
-    requires other { Holding other.old hold }
-    ensures table { Accounted table.new }
+fn mix_up(rt: &HostRuntime, desk: &mut Desk<'_>, other: &mut Desk<'_>, hold: Hold) -> io::Result<()>
+    requires { IsHolding other.old.table hold }
 {
     let from = hold.table();
     let row = hold.row();
-    match hand_to(table, hold) {
+    match desk.hand_over(hold) {
         Ok(()) => println!(rt; "The hold of table {from} on row {row} is taken."),
         Err(refusal) => {
             let why = refusal.number();
-            give_up(other, handed_back(refusal));
+            other.give_up(handed_back(refusal));
             println!(rt;
                 "The hold of table {from} on row {row} is handed back: refused with number {why}."
             )?;
@@ -93,69 +82,57 @@ fn mix_up(
 }
 
 // A second table of four places, whose hold is handed to the first.
-fn second_table(rt: &HostRuntime, table: &mut Table<Every>) -> io::Result<()>
-    requires { Accounted table.old }
-    ensures { Accounted table.new }
-{
+fn second_table(rt: &HostRuntime, desk: &mut Desk<'_>) -> io::Result<()> {
     let mut places = [None; 4];
-    let mut other = Table::new(2, &mut places);
+    let mut other = Desk::new(2, &mut places);
     tell_room(rt, &other, 2)?;
-    match take_in(&mut other, car(6, 5)) {
-        Ok(hold) => mix_up(rt, table, &mut other, hold),
+    match other.take_in(car(6, 5, SLOW)) {
+        Ok(hold) => mix_up(rt, desk, &mut other, hold),
         Err(refusal) => tell_refusal(rt, 6, refusal),
     }
 }
 
 // The rows that stand as the evening begins.
-fn open(rt: &HostRuntime, table: &mut Table<Every>) -> io::Result<()>
-    requires { Accounted table.old }
-    ensures { Accounted table.new }
-{
-    tell_room(rt, table, 1)?;
+fn open(rt: &HostRuntime, desk: &mut Desk<'_>) -> io::Result<()> {
+    tell_room(rt, desk, 1)?;
     println!(rt; "The meters start as row 1.")?;
-    start(rt, table, meters(), true)?;
+    start(rt, desk, meters(), Card::Known)?;
     println!(rt; "The card reader starts as row 2.")?;
-    start(rt, table, card_reader(), true)?;
-    tell_rows(rt, table)
+    start(rt, desk, card_reader(), Card::Known)?;
+    tell_rows(rt, desk)
 }
 
 // One car with a known card, and one with an unknown card, which changes no bound.
-fn two_cars(rt: &HostRuntime, table: &mut Table<Every>) -> io::Result<()>
-    requires { Accounted table.old }
-    ensures { Accounted table.new }
-{
+fn two_cars(rt: &HostRuntime, desk: &mut Desk<'_>) -> io::Result<()> {
     println!(rt; "A car with a known card is plugged in as row 3.")?;
-    start(rt, table, car(3, 10), true)?;
-    tell_rows(rt, table)?;
+    start(rt, desk, car(3, 10, SLOW), Card::Known)?;
+    tell_rows(rt, desk)?;
     println!(rt; "A car with an unknown card is plugged in as row 4.")?;
-    start(rt, table, car(4, 9), false)?;
-    tell_rows(rt, table)
+    start(rt, desk, car(4, 9, SLOW), Card::Unknown)?;
+    tell_rows(rt, desk)
 }
 
 // A car that would make another late, and is taken after that one has left.
-fn wait_for_place(rt: &HostRuntime, table: &mut Table<Every>) -> io::Result<()>
-    requires { Accounted table.old }
-    ensures { Accounted table.new }
-{
+fn wait_for_place(rt: &HostRuntime, desk: &mut Desk<'_>) -> io::Result<()> {
     println!(rt; "A fast car is plugged in as row 5.")?;
-    start(rt, table, fast_car(5, 15), true)?;
+    start(rt, desk, car(5, 15, FAST), Card::Known)?;
     println!(rt; "The car of row 3 is unplugged.")?;
-    depart(rt, table, 3)?;
+    depart(rt, desk, 3)?;
     println!(rt; "The fast car asks again.")?;
-    start(rt, table, fast_car(5, 15), true)?;
-    tell_rows(rt, table)
+    start(rt, desk, car(5, 15, FAST), Card::Known)?;
+    tell_rows(rt, desk)
 }
 
 fn main(rt: HostRuntime) -> io::Result<()> {
     let mut places = [None; 12];
-    let mut table = Table::new(1, &mut places);
-    open(&rt, &mut table)?;
-    two_cars(&rt, &mut table)?;
-    wait_for_place(&rt, &mut table)?;
+    let mut desk = Desk::new(1, &mut places);
+    open(&rt, &mut desk)?;
+    two_cars(&rt, &mut desk)?;
+    wait_for_place(&rt, &mut desk)?;
     println!(rt; "A second table gives a hold, which is handed to the first.")?;
-    second_table(&rt, &mut table)?;
+    second_table(&rt, &mut desk)?;
     println!(rt; "A car for the night is plugged in as row 6, and unplugged while it is held.")?;
-    depart_early(&rt, &mut table, night_car(6, 5))?;
-    tell_bounds(&rt, &table, 6)?;
-    tell_room(&rt, &table, 1)
+    depart_early(&rt, &mut desk, car(6, 5, NIGHT))?;
+    tell_bounds(&rt, &desk, 6)?;
+    tell_room(&rt, &desk, 1)
 }

@@ -2,6 +2,19 @@
 use analysis::{Row, Task};
 use demand::Every;
 
+// The charging of a car that charges slowly, of one that charges fast, and of one that stays overnight.
+pub(crate) const SLOW: Every = Every { job: 5, period: 40 };
+
+pub(crate) const FAST: Every = Every {
+    job: 12,
+    period: 30,
+};
+
+pub(crate) const NIGHT: Every = Every {
+    job: 5,
+    period: 100,
+};
+
 // A row without suspensions that uses at most lock 0.
 fn row(number: u32, priority: u32, deadline: u32, lock: u32) -> Row {
     Row {
@@ -29,42 +42,16 @@ pub(crate) fn meters() -> Task<Every> {
 
 // Row 2.
 pub(crate) fn card_reader() -> Task<Every> {
-    let row = row(2, 20, 15, 0);
     Task {
-        row,
+        row: row(2, 20, 15, 0),
         kind: Every { job: 3, period: 16 },
     }
 }
 
-// A car that charges slowly.
-pub(crate) fn car(number: u32, priority: u32) -> Task<Every> {
-    let row = row(number, priority, 40, 2);
+// A car, whose jobs may each last until the next one comes.
+pub(crate) fn car(number: u32, priority: u32, charging: Every) -> Task<Every> {
     Task {
-        row,
-        kind: Every { job: 5, period: 40 },
-    }
-}
-
-// A car that charges fast.
-pub(crate) fn fast_car(number: u32, priority: u32) -> Task<Every> {
-    let row = row(number, priority, 30, 2);
-    Task {
-        row,
-        kind: Every {
-            job: 12,
-            period: 30,
-        },
-    }
-}
-
-// A car that stays overnight.
-pub(crate) fn night_car(number: u32, priority: u32) -> Task<Every> {
-    let row = row(number, priority, 100, 2);
-    Task {
-        row,
-        kind: Every {
-            job: 5,
-            period: 100,
-        },
+        row: row(number, priority, charging.period, 2),
+        kind: charging,
     }
 }

@@ -1,10 +1,9 @@
-// What is printed of a table and of its answers.
-ghost use Rattle.garage.specs.Accounted.{Accounted};
-
-use demand::Every;
+// What is printed of a desk and of its answers.
+use super::desk::Desk;
 use std::io;
-use table::{HoldRefusal, State, Table, WithdrawRefusal};
+use table::{HoldRefusal, State, WithdrawRefusal};
 
+// A word for a state. `State` belongs to the library, so an `impl Display` cannot stand here.
 fn state_word(state: State) -> &'static str {
     match state {
         State::Free => "free",
@@ -14,52 +13,46 @@ fn state_word(state: State) -> &'static str {
 }
 
 // How many rows more the table of this number takes.
-pub(crate) fn tell_room(rt: &HostRuntime, table: &Table<Every>, number: u8) -> io::Result<()> {
-    let room = table.room();
-    println!(rt; "Table {number} has room for {room} rows.")
+pub(crate) fn tell_room(rt: &HostRuntime, desk: &Desk<'_>, number: u8) -> io::Result<()> {
+    println!(rt; "Table {number} has room for {} rows.", desk.table.room())
 }
 
-pub(crate) fn tell_state(rt: &HostRuntime, table: &Table<Every>, number: u32) -> io::Result<()> {
-    let state = state_word(table.state_of(number));
-    println!(rt; "Row {number} is {state}.")
+pub(crate) fn tell_state(rt: &HostRuntime, desk: &Desk<'_>, number: u32) -> io::Result<()> {
+    println!(rt;
+        "Row {number} is {}.",
+        state_word(desk.table.state_of(number))
+    )
 }
 
 // All rows with what is answered for them, highest first.
-pub(crate) fn tell_rows(rt: &HostRuntime, table: &Table<Every>) -> io::Result<()>
-    requires { Accounted table.now }
-{
-    let answers = match table.answers() {
-        Ok(answers) => answers,
-        Err(_) => unreachable(),
-    };
+pub(crate) fn tell_rows(rt: &HostRuntime, desk: &Desk<'_>) -> io::Result<()> {
     println!(rt; "The rows, highest first:")?;
-    for answer in answers.rows() {
-        let number = answer.number;
-        let bound = answer.bound;
-        let vector = answer.vector;
-        let blocking = answer.blocking;
-        println!(rt; "  row {number}: bound {bound}, vector {vector}, blocking {blocking}")?;
+    for answer in desk.answers().rows() {
+        println!(rt;
+            "  row {}: bound {}, vector {}, blocking {}",
+            answer.number, answer.bound, answer.vector, answer.blocking
+        )?;
     }
     Ok(())
 }
 
-fn tell_bound(rt: &HostRuntime, table: &Table<Every>, number: u32) -> io::Result<()> {
-    match table.bound(number) {
+fn tell_bound(rt: &HostRuntime, desk: &Desk<'_>, number: u32) -> io::Result<()> {
+    match desk.table.bound(number) {
         Ok((bound, vector)) => println!(rt;
             "  row {number} ends within {bound}, by the vector {vector}"
         ),
-        Err(refusal) => {
-            let why = refusal.number();
-            println!(rt; "  row {number}: refused with number {why}, there is no such row")
-        }
+        Err(refusal) => println!(rt;
+            "  row {number}: refused with number {}, there is no such row",
+            refusal.number()
+        ),
     }
 }
 
 // The bounds of the rows up to this number, asked one by one.
-pub(crate) fn tell_bounds(rt: &HostRuntime, table: &Table<Every>, last: u32) -> io::Result<()> {
+pub(crate) fn tell_bounds(rt: &HostRuntime, desk: &Desk<'_>, last: u32) -> io::Result<()> {
     println!(rt; "The bounds of the rows 1 to {last}:")?;
     for number in 1..=last {
-        tell_bound(rt, table, number)?;
+        tell_bound(rt, desk, number)?;
     }
     Ok(())
 }
@@ -81,9 +74,9 @@ pub(crate) fn tell_withdrawal(
 ) -> io::Result<()> {
     match left {
         Ok(()) => println!(rt; "Row {number} has left."),
-        Err(refusal) => {
-            let why = refusal.number();
-            println!(rt; "Row {number} cannot leave: refused with number {why}.")
-        }
+        Err(refusal) => println!(rt;
+            "Row {number} cannot leave: refused with number {}.",
+            refusal.number()
+        ),
     }
 }

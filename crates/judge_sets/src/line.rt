@@ -2,19 +2,23 @@
 use analysis::{LOCKS, Row, Task};
 use anyhow::{Context, anyhow};
 use demand::{Either, Every, Heavy, Left, Right};
-use std::str::Split;
+use std::array;
+use std::str::{FromStr, Split};
 
 // The kinds of demand that a row can have.
 pub(crate) type Demand = Either<Every, Heavy>;
 
+// A line: a row, or the end of a set, which its name says better than an `Option` would.
 #[derive(Clone, Copy)]
 pub(crate) enum Line {
     Row(Task<Demand>),
     Judge,
 }
 
-impl Line {
-    pub(crate) fn parse(text: &str) -> anyhow::Result<Line> {
+impl FromStr for Line {
+    type Err = anyhow::Error;
+
+    fn from_str(text: &str) -> anyhow::Result<Line> {
         let mut fields = text.split(' ');
         let line = match fields.next() {
             Some("row") => Line::Row(task(&mut fields)?),
@@ -49,12 +53,8 @@ fn row(fields: &mut Split<'_, char>) -> anyhow::Result<Row> {
     })
 }
 
-fn sections(fields: &mut Split<'_, char>) -> anyhow::Result<[u32; 8]> {
-    let mut sections = [0; 8];
-    for lock in 0..LOCKS {
-        sections[lock] = number(fields)?;
-    }
-    Ok(sections)
+fn sections(fields: &mut Split<'_, char>) -> anyhow::Result<[u32; LOCKS]> {
+    array::try_from_fn(|_| number(fields))
 }
 
 fn every(fields: &mut Split<'_, char>) -> anyhow::Result<Every> {

@@ -9,18 +9,18 @@ mod line;
 use analysis::{Answer, JudgeRefusal, Task, judge};
 use anyhow::anyhow;
 use line::{Demand, Line};
-use std::alloc::{AllocError, Global};
+use std::alloc::AllocError;
 use std::io::{BufRead, BufReader};
 
 // Appends the line of one answer.
 fn write_answer(text: &mut String, answer: &Answer) -> Result<(), AllocError>
     ensures { OnOk result (string_bytes text.new ≡ string_bytes text.old ++ answer_line answer.now) }
 {
-    let number = answer.number;
-    let bound = answer.bound;
-    let vector = answer.vector;
-    let blocking = answer.blocking;
-    writeln!(text, "row {number} {bound} {vector} {blocking}")
+    writeln!(
+        text,
+        "row {} {} {} {}",
+        answer.number, answer.bound, answer.vector, answer.blocking
+    )
 }
 
 // Appends what is found for one set.
@@ -38,14 +38,10 @@ fn write_set(text: &mut String, places: &[Option<Task<Demand>>]) -> Result<(), A
 }
 
 // The line at an index of the input.
-fn line_at(heap: Global, index: usize, text: &str) -> anyhow::Result<Line> {
-    match Line::parse(text) {
-        Ok(line) => Ok(line),
-        Err(error) => {
-            let number = index.saturating_add(1);
-            Err(anyhow!(format!(in heap; "line {number}: {error}")?))
-        }
-    }
+fn line_at(index: usize, text: &str) -> anyhow::Result<Line> {
+    let number = index.saturating_add(1);
+    text.parse::<Line>()
+        .map_err(|error| anyhow!("line {number}: {error}"))
 }
 
 fn run(rt: &HostRuntime) -> anyhow::Result<()> {
@@ -53,7 +49,7 @@ fn run(rt: &HostRuntime) -> anyhow::Result<()> {
     let mut places = Vec::new(heap);
     let lines = BufReader::new(heap, rt.stdin())?.lines(heap);
     for (index, text) in lines.enumerate() {
-        match line_at(heap, index, text?.as_str())? {
+        match line_at(index, text?.as_str())? {
             Line::Row(task) => places.push(Some(task))?,
             Line::Judge => {
                 let mut found = String::new(heap);

@@ -5,16 +5,15 @@ use analysis::{JudgeRefusal, Row, Task, judge};
 use demand::Every;
 use std::io;
 
-// A task whose row uses at most lock 0.
+// A task whose row uses at most lock 0. The suspension is its total and how often, which a `Row` has as two numbers.
 fn task(
     number: u32,
     priority: u32,
-    suspension: (u32, u32),
+    (suspension, suspensions): (u32, u32),
     deadline: u32,
     lock: u32,
     kind: Every,
 ) -> Option<Task<Every>> {
-    let (suspension, suspensions) = suspension;
     let row = Row {
         number,
         priority,
@@ -33,11 +32,10 @@ fn main(rt: HostRuntime) -> io::Result<()> {
     match judge(&[meters, card_reader, car], &None) {
         Ok(answers) => {
             for answer in answers.rows() {
-                let number = answer.number;
-                let bound = answer.bound;
-                let vector = answer.vector;
-                let blocking = answer.blocking;
-                println!(rt; "row\t{number}\t{bound}\t{vector}\t{blocking}")?;
+                println!(rt;
+                    "row\t{}\t{}\t{}\t{}",
+                    answer.number, answer.bound, answer.vector, answer.blocking
+                )?;
             }
             Ok(())
         }

@@ -18,24 +18,21 @@ fn read_file(rt: &HostRuntime) -> io::Result<Vec<u8>> {
     Ok(file)
 }
 
+// `examples` prints the same of the files that it has. The two are programs, and a library for these lines alone would be a
+// crate more.
 fn print_answer(rt: &HostRuntime) -> io::Result<()> {
     let file = read_file(rt)?;
     let mut text = [0u8; REPORT_MEMORY];
-    match answer(file.as_slice(), &mut text) {
-        Ok(length) => rt.write_all(&text[0..length]),
-        Err(_) => unreachable(),
-    }
+    let length = answer(file.as_slice(), &mut text).unwrap();
+    rt.write_all(&text[0..length])
 }
 
 fn run(rt: &HostRuntime) -> anyhow::Result<()> {
-    let mut args = env::args(rt)?;
-    let _program = args.next();
-    let word = args.next();
-    let more = args.next().is_some();
-    match word {
-        None => print_answer(rt)?,
-        Some(word) if word.as_str() == "--help" && !more => rt.print(HELP)?,
-        Some(_) => return Err(anyhow!("plan_stdin takes no argument but --help")),
+    let args: Vec<String> = env::args(rt)?.skip(1).collect(rt.alloc())?;
+    match args.as_slice() {
+        [] => print_answer(rt)?,
+        [word] if word.as_str() == "--help" => rt.print(HELP)?,
+        _ => return Err(anyhow!("plan_stdin takes no argument but --help")),
     }
     Ok(())
 }

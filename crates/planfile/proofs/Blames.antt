@@ -11,11 +11,11 @@ use Rattle.planfile.specs.declared.fault.LineFault.{LineFault}
 use Rattle.planfile.specs.declared.fault.LineFault.TheVariants.{Word as OfWord, Count, Number, Kind, Hold}
 use Rattle.planfile.specs.declared.fault.Fault.{Fault}
 use Rattle.planfile.specs.declared.fault.Fault.TheVariants.{ReportMemory, File, Line}
-use Rattle.planfile.specs.Fault.{Blame, nothing, by, by_field, first_blame, line_blame, blame}
-use Rattle.planfile.specs.declared.entry.Jobs.{Jobs}
-use Rattle.planfile.specs.declared.entry.Jobs.TheVariants.{Every as EveryJobs, Heavy as HeavyJobs}
+use Rattle.planfile.specs.declared.fault.Blame.{Blame}
+use Rattle.planfile.specs.Fault.{nothing, by, by_field, first_blame, line_blame, blame}
+use Rattle.either.specs.declared.Either.TheVariants.{Left, Right}
 use Rattle.planfile.specs.declared.word.Word.{Word}
-use Rattle.planfile.specs.Checks.{fields_due, number_checks, word_checks, blaming_none, numbers_in, number_in, jobs_checks}
+use Rattle.planfile.specs.Checks.{Jobs, fields_due, number_checks, word_checks, blaming_none, numbers_in, number_in, jobs_checks}
 use Rattle.planfile.specs.Reading.{file_checks}
 use Rattle.planfile.specs.Text.{is_number, field, word_of}
 
@@ -89,8 +89,8 @@ first_passed ((true, n) ∷ xs) ys all e = absurd (all.0 e)
 first_passed ((false, n) ∷ xs) ys all e = first_passed xs ys all.1 e
 
 pub numbered_jobs : (jobs : Jobs) → Numbered (blaming_none (jobs_checks jobs))
-numbered_jobs (EveryJobs c t) = (kind_numbered Job, (kind_numbered Period, tt))
-numbered_jobs (HeavyJobs c h m t) = (kind_numbered Job, (kind_numbered Period, tt))
+numbered_jobs (Left k) = (kind_numbered Job, (kind_numbered Period, tt))
+numbered_jobs (Right k) = (kind_numbered Job, (kind_numbered Period, tt))
 
 -- fields in a row are checked one after the other
 pub checks_split : (fs : List (List ℕ)) (k m n : ℕ) → number_checks fs k (m + n) ≡ number_checks fs k m ++ number_checks fs (k + m) n

@@ -4,7 +4,8 @@ use Rattle.analysis.specs.Judge.{InTime}
 use Rattle.analysis.specs.Ranks.{Claim}
 use Rattle.demand.specs.declared.speed.Factor.{Factor}
 use Rattle.planfile.specs.declared.fault.Fault.{Fault}
-use Rattle.planfile.specs.Fault.{Blame, at_line, first_blame, blame}
+use Rattle.planfile.specs.declared.fault.Blame.{Blame}
+use Rattle.planfile.specs.Fault.{at_line, first_blame, blame}
 use Rattle.planfile.specs.Text.{fields}
 use Rattle.planfile.specs.Checks.{clock_checks}
 use Rattle.planfile.specs.Reading.{claim_in, clock_fields, file_checks, RowTaken, RowRefused, RowsRead, FileRead}

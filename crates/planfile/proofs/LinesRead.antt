@@ -1,63 +1,99 @@
 -- What the lines of a file give, one after the other. Assumes nothing.
-use Rattle.std.proofs.Common.{◌≡◌, ℕ, ◌+◌, ◌<◌, ◌≤◌, true, ◌≢◌, ◌⊎◌, List, [], ◌∷◌, length, get_or, drop, Ok, Err, Result, sym, refl, ap, ◌∙◌, subst, inl, inr, arith, drop_of_length-le, eqb-true, MatchResult}
+use Rattle.std.proofs.Common.{◌≡◌, ℕ, ◌+◌, ◌^◌, ◌<◌, ◌≤◌, ◌≢◌, List, [], ◌∷◌, map, length, get_or, drop, Option, Some, None, Ok, Err, Result, sym, refl, ap, ◌∙◌, subst, inl, inr, arith, drop_of_length-le, MatchResult}
+use Rattle.std.specs.List.{enumerate_from}
+use Rattle.std.specs.Iterator.{YieldsFirst}
+use Rattle.std.specs.Iterator.Adapters.{enumerate_steps}
+use Rattle.std.specs.declared.iter.Enumerate.{Enumerate}
+use Rattle.std.proofs.lemmas.Iterator.{YieldsList}
+use Rattle.std.proofs.lemmas.Iterator.Consumers.{YieldsList-from_first, YieldsList-from_enumerate}
+use Rattle.std.specs.Option.{IsSome}
+use Rattle.std.specs.Result.{IsErrAnd}
+use Rattle.std.proofs.lemmas.List.{drop_more, get_or-map, length-map, length-drop}
+use Rattle.std.proofs.lemmas.List.FromFn.{length-enumerate_from, get_or-enumerate_from}
 use Rattle.analysis.specs.Ranks.{Claim}
 use Rattle.demand.specs.declared.speed.Factor.{Factor}
-use Rattle.planfile.specs.declared.fault.Fault.{Fault}
-use Rattle.planfile.specs.declared.fault.Fault.TheVariants.{Line}
 use Rattle.planfile.specs.declared.fault.LineFault.{LineFault}
-use Rattle.planfile.specs.Fault.{Blame, nothing, at_line, first_blame, line_blame}
+use Rattle.planfile.specs.declared.fault.Blame.{Blame}
+use Rattle.planfile.specs.Fault.{nothing, at_line, first_blame, line_blame}
 use Rattle.planfile.specs.Checks.{clock_checks, clock_of}
-use Rattle.planfile.specs.Reading.{claim_in, RowTaken, RowRefused, RowsRead, LinesRead}
-use Rattle.planfile.specs.Text.{lines, fields, ended}
+use Rattle.planfile.specs.Reading.{claim_in, clock_fields, RowTaken, RowRefused, RowsRead, LinesRead}
+use Rattle.planfile.specs.declared.reader.Reader.{Reader}
+use Rattle.planfile.specs.Cut.{lines_left}
+use Rattle.planfile.specs.Laws.{row_lines}
+use Rattle.planfile.specs.Text.{lines, fields}
 use Rattle.planfile.proofs.Blames.{fault_numbered}
+use Rattle.planfile.proofs.Parted.{few_lines}
 
--- a text that is ended by a newline has a byte
-pub some_byte : (text : List ℕ) → ended text ≡ true → 0 < length text
-some_byte [] e = let z : ◌≡◌ {A = ℕ} 0 10 = eqb-true 0 10 e in omega arith
-some_byte (b ∷ bs) e = omega arith
+-- the first of some lines, and the others
+first_of : (ls : List (List ℕ)) (line : List (List ℕ)) (rest : List (List (List ℕ))) → map fields ls ≡ line ∷ rest → (line ≡ fields (get_or ls 0 [])) × (rest ≡ map fields (drop 1 ls))
+first_of [] line rest e = absurd (cc)
+first_of (l ∷ ls) line rest e = (cc, cc)
 
--- what these lines give: `LinesRead` is this at the lines of a text
-abbrev Gives : List (List ℕ) → Result (List Claim) Blame → Type 0
-Gives ls r =
-    (((first_blame (clock_checks (fields (get_or ls 0 [])))).number ≢ 0) × (r ≡ Err (at_line 1 (first_blame (clock_checks (fields (get_or ls 0 [])))))))
-    ⊎ ((first_blame (clock_checks (fields (get_or ls 0 []))) ≡ nothing) × RowsRead (clock_of (fields (get_or ls 0 []))) 2 [] (drop 1 ls) r)
+-- a reader gives the clock line, and the row lines are left
+pub first_line : (file : List ℕ) (r s : Reader) (o : Option (List (List ℕ))) (line : List (List ℕ)) → r.text.now ≡ file → YieldsFirst lines_left r o s → o ≡ Some line → (line ≡ clock_fields file) × (lines_left s ≡ map fields (row_lines file))
+first_line file r s o line text step is =
+    first_of (lines file) line (lines_left s) (ap (λ t. map fields (lines t)) (sym text) ∙ rw is at step)
 
-module _ (text bytes : List ℕ) (rest : List (List ℕ)) (next : lines text ≡ bytes ∷ rest) where
-  -- the clock line is refused
-  pub clock_refused : (f : LineFault) → first_blame (clock_checks (fields bytes)) ≡ line_blame f → LinesRead text (Err (at_line 1 (line_blame f)))
-  clock_refused f e =
-      subst (λ ls. Gives ls (Err (at_line 1 (line_blame f)))) (sym next)
-      (inl (subst (λ (b : Blame). b.number ≢ 0) (sym e) (fault_numbered f), ap (λ b. Err (at_line 1 b)) (sym e)))
+-- where lines are left, the reader gives one
+pub some_first : {S A : Type 0} (left : S → List A) (s t : S) (r : Option A) → YieldsFirst left s r t → 0 < length (left s) → IsSome r
+some_first left s t None e some = absurd (omega (arith, ap length e.0))
+some_first left s t (Some x) e some = refl
 
-  -- the clock line passes, so the row lines decide
-  pub clock_taken : (clock : Factor) → first_blame (clock_checks (fields bytes)) ≡ nothing → clock ≡ clock_of (fields bytes) → (r : Result (List Claim) Blame) → RowsRead clock 2 [] rest r → LinesRead text r
-  clock_taken clock e is r rows =
-      subst (λ ls. Gives ls r) (sym next) (inr (e, subst (λ (k : Factor). RowsRead k 2 [] rest r) is rows))
+-- there are no more row lines than bytes
+pub few_rows : (file : List ℕ) → length (row_lines file) ≤ length file
+few_rows file = omega (arith, length-drop 1 (lines file), few_lines file)
 
-module _ (clock : Factor) (n : ℕ) (rows : List Claim) (ls : List (List ℕ)) (bytes : List ℕ) (rest : List (List ℕ)) (next : ls ≡ bytes ∷ rest) where
+-- the row lines, each with its index, are what a reader gives behind the clock line
+module _ (file : List ℕ) (r s : Reader) (o : Option (List (List ℕ))) (line : List (List ℕ)) (text : r.text.now ≡ file) (step : YieldsFirst lines_left r o s) (is : o ≡ Some line) (e it : Enumerate Reader) (from : e.iter ≡ s) (none : e.count ≡ 0) (same : it ≡ e) where
+  rest_is : lines_left it.iter ≡ map fields (row_lines file)
+  rest_is = ap (λ (x : Enumerate Reader). lines_left x.iter) same ∙ (ap lines_left from ∙ (first_line file r s o line text step is).1)
+
+  count_is : it.count ≡ 0
+  count_is = ap (λ (x : Enumerate Reader). x.count) same ∙ none
+
+  pub row_road : YieldsList {B = ℕ × List (List ℕ)} (enumerate_steps (YieldsFirst lines_left)) (λ p. (p.0, p.1)) it (enumerate_from 0 (map fields (row_lines file)))
+  row_road = YieldsList-from_enumerate (YieldsList-from_first (λ x. x) lines_left (map fields (row_lines file)) rest_is) count_is
+
+  -- and their count fits
+  pub row_count : length file ≤ 4096 → it.count + length (lines_left it.iter) < 2 ^ 64
+  row_count short = omega (arith, count_is, ap length rest_is, length-map (row_lines file) fields, few_rows file)
+
+-- the line of an index
+pub line_at : (ls : List (List ℕ)) (k i : ℕ) (line : List (List ℕ)) → (k < length (enumerate_from 0 (map fields ls))) × (◌≡◌ {A = ℕ × List (List ℕ)} (i, line) (get_or (enumerate_from 0 (map fields ls)) k (i, line))) → (k < length ls) × (i ≡ k) × (line ≡ fields (get_or ls k []))
+line_at ls k i line (lt, e) =
+    let inside : k < length (map fields ls) = omega (arith, length-enumerate_from 0 (map fields ls)) in
+    let within : k < length ls = omega (arith, length-map ls fields) in
+    let is : ◌≡◌ {A = ℕ × List (List ℕ)} (i, line) (0 + k, get_or (map fields ls) k line) = e ∙ get_or-enumerate_from 0 (map fields ls) k (i, line) inside in
+    let index : i ≡ 0 + k = ap (λ (p : ℕ × List (List ℕ)). p.0) is in
+    (within, omega arith, ap (λ (p : ℕ × List (List ℕ)). p.1) is ∙ get_or-map fields ls k [] line within)
+
+-- the clock line is refused
+pub clock_refused : (text : List ℕ) (f : LineFault) → first_blame (clock_checks (clock_fields text)) ≡ line_blame f → LinesRead text (Err (at_line 1 (line_blame f)))
+clock_refused text f e = inl (subst (λ (b : Blame). b.number ≢ 0) (sym e) (fault_numbered f), ap (λ b. Err (at_line 1 b)) (sym e))
+
+-- the clock line passes, so the row lines decide
+pub clock_taken : (text : List ℕ) (clock : Factor) (r : Result (List Claim) Blame) → first_blame (clock_checks (clock_fields text)) ≡ nothing → clock ≡ clock_of (clock_fields text) → RowsRead clock 2 [] (row_lines text) r → LinesRead text r
+clock_taken text clock r e is rows = inr (e, subst (λ (k : Factor). RowsRead k 2 [] (row_lines text) r) is rows)
+
+module _ (clock : Factor) (n : ℕ) (rows : List Claim) (ls : List (List ℕ)) (k : ℕ) (within : k < length ls) (fs : List (List ℕ)) (here : fs ≡ fields (get_or ls k [])) where
   -- a row line is refused
-  pub row_refused : (b : Blame) → RowRefused clock rows (fields bytes) b → RowsRead clock n rows ls (Err (at_line n b))
+  pub row_refused : (b : Blame) → RowRefused clock rows fs b → RowsRead clock n rows (drop k ls) (Err (at_line n b))
   row_refused b refused =
-      subst (λ xs. RowsRead clock n rows xs (Err (at_line n b))) (sym next) (inl (b, refused, refl))
+      rw (drop_more ls k [] within) (inl (b, subst (λ (xs : List (List ℕ)). RowRefused clock rows xs b) here refused, refl))
 
   -- a row line is taken, so the lines behind it decide
-  pub row_taken : RowTaken clock rows (fields bytes) → (r : Result (List Claim) Blame) → RowsRead clock (n + 1) (claim_in clock (fields bytes) ∷ rows) rest r → RowsRead clock n rows ls r
-  row_taken taken r more = subst (λ xs. RowsRead clock n rows xs r) (sym next) (inr (taken, more))
+  pub row_taken : (m j : ℕ) → m ≡ n + 1 → j ≡ k + 1 → RowTaken clock rows fs → (r : Result (List Claim) Blame) → RowsRead clock m (claim_in clock fs ∷ rows) (drop j ls) r → RowsRead clock n rows (drop k ls) r
+  row_taken m j e f taken r more = rw (drop_more ls k [] within) (inr (rw here at taken, rw (e, f, here) at more))
 
--- behind the last byte there is no line
-pub no_lines : (clock : Factor) (n : ℕ) (rows : List Claim) (text : List ℕ) (i : ℕ) → length text ≤ i → RowsRead clock n rows (lines (drop i text)) (Ok rows)
-no_lines clock n rows text i end = subst (λ bs. RowsRead clock n rows (lines bs) (Ok rows)) (sym (drop_of_length-le text end)) refl
+-- behind the last line there is none
+pub no_lines : (clock : Factor) (n : ℕ) (rows : List Claim) (ls : List (List ℕ)) (k : ℕ) → length ls ≤ k → RowsRead clock n rows (drop k ls) (Ok rows)
+no_lines clock n rows ls k end = rw (drop_of_length-le ls end) refl
 
--- where a line's answer with its number is a fault, the line's answer is
-pub fault_of_line : {T : Type 0} (answer : Result T LineFault) (n : ℕ) (r : Result T Fault) (y : Fault) → MatchResult answer (λ x. r ≡ Ok x) (λ f. r ≡ Err (Line n f)) → r ≡ Err y → (f : LineFault) × (answer ≡ Err f) × (y ≡ Line n f)
-fault_of_line (Ok x) n r y told e =
-    let z : ◌≡◌ {A = Result _ Fault} (Ok x) (Err y) = sym told ∙ e in
-    let no : ◌≡◌ {A = ℕ} 0 1 = cc in
-    let never : ⊥ = omega arith in
-    absurd never
-fault_of_line (Err f) n r y told e = (f, refl, cc)
+module _ {T E D : Type 0} (r : Result T E) (s : Result T D) (Said : E → D → Type 0) (told : MatchResult r (λ x. s ≡ Ok x) (λ e. IsErrAnd s (Said e))) where
+  -- where an answer with its line's number is none, the line's answer is that too
+  pub value_of_line : (x : T) → s ≡ Ok x → r ≡ Ok x
+  value_of_line x is = elim r as (λ (r : Result T E). MatchResult r (λ x. s ≡ Ok x) (λ e. IsErrAnd s (Said e)) → r ≡ Ok x) [ Ok y ↦ λ t. cc | Err e ↦ λ t. absurd (rw is at t) ] told
 
--- and where it is none, the line's answer is none
-pub value_of_line : {T : Type 0} (answer : Result T LineFault) (n : ℕ) (r : Result T Fault) (y : T) → MatchResult answer (λ x. r ≡ Ok x) (λ f. r ≡ Err (Line n f)) → r ≡ Ok y → answer ≡ Ok y
-value_of_line (Ok x) n r y told e = cc
-value_of_line (Err f) n r y told e = let z : ◌≡◌ {A = Result _ Fault} (Err (Line n f)) (Ok y) = sym told ∙ e in cc
+  -- where it is a fault, the line's answer is one
+  pub fault_of_line : (says : E → D) → ((e : E) (d : D) → Said e d → d ≡ says e) → (y : D) → s ≡ Err y → (e : E) × (r ≡ Err e) × (y ≡ says e)
+  fault_of_line says are y is = elim r as (λ (r : Result T E). MatchResult r (λ x. s ≡ Ok x) (λ e. IsErrAnd s (Said e)) → (e : E) × (r ≡ Err e) × (y ≡ says e)) [ Ok x ↦ λ t. absurd (cc) | Err e ↦ λ t. (e, refl, are e y (rw is at t)) ] told

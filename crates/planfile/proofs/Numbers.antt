@@ -1,34 +1,76 @@
 -- Numbers that are read, and numbers that are written. Assumes nothing.
-use Rattle.std.proofs.Common.{◌≡◌, ℕ, ◌+◌, ◌-◌, ◌*◌, ◌^◌, ◌<◌, ◌≤◌, true, false, ltb, leb, List, [], ◌∷◌, length, get_or, drop, IfOk, Ok, Err, decimal, Result, ap, ◌∙◌, arith, rules, MatchResult}
+use Rattle.std.proofs.Common.{◌≡◌, ℕ, ◌+◌, ◌-◌, ◌*◌, ◌^◌, ◌<◌, ◌≤◌, true, false, ltb, leb, ◌⊎◌, Option, Some, None, List, [], ◌∷◌, ◌++◌, map, length, get_or, take, drop, Bor, IfOk, Ok, Err, decimal, Result, sym, refl, ap, ◌∙◌, subst, inl, inr, arith, rules, MatchOption, MatchResult}
+use Rattle.std.specs.Iterator.{YieldsThen}
+use Rattle.std.specs.List.{FoldsTo}
 use Rattle.std.proofs.lemmas.Fmt.{decimal-digits_value, digits_value-decimal, digits_decimal, decimal_nonempty}
-use Rattle.std.proofs.lemmas.List.{at_drop_more}
+use Rattle.std.proofs.lemmas.Iterator.{YieldsList}
+use Rattle.std.proofs.lemmas.Iterator.Consumers.{YieldsList-so_far, YieldsList-turn, YieldsList-end}
+use Rattle.std.proofs.lemmas.List.{take-append-drop, take_all, drop_more}
 use Rattle.std.proofs.lemmas.Str.Parse.{IsNumeralModel, numerals_by_fold}
-use Rattle.std.proofs.lemmas.Bool.{and_from, and_left, and_right, and_parts, le-ltb, lt-leb, ltb-true, leb-true, lt-ltb, le-leb, both_ways}
+use Rattle.std.proofs.lemmas.Bool.{and_from, and_left, and_right, and_parts, lt-leb, ltb-true, leb-true, lt-ltb, le-leb, both_ways}
 use Rattle.planfile.specs.declared.fault.FieldFault.{FieldFault}
-use Rattle.planfile.specs.Text.{all_digits, value_after, value, is_number}
+use Rattle.planfile.specs.Text.{is_digit, all_digits, value_after, value, is_number}
 
 -- the words of a plan file's numbers are those of digits in base ten
-own : IsNumeralModel (λ ds. all_digits ds ≡ true) (value_after 0)
+pub own : IsNumeralModel (λ ds. all_digits ds ≡ true) (value_after 0)
 own = numerals_by_fold _ (search rules) value_after (search rules)
 
 -- more digits never make a number smaller
-pub value_grows : (n : ℕ) (bs : List ℕ) → n ≤ value_after n bs
+value_grows : (n : ℕ) (bs : List ℕ) → n ≤ value_after n bs
 value_grows n [] = omega arith
 value_grows n (b ∷ bs) = omega (arith, value_grows (n * 10 + (b - 48)) bs)
 
--- one digit more is read
-pub value_more : (f : List ℕ) (i n : ℕ) → i < length f → value_after n (drop i f) ≡ value_after (n * 10 + (get_or f i 0 - 48)) (drop (i + 1) f)
-value_more f i n h = at_drop_more (value_after n) f i 0 h
+-- behind digits, the others decide
+digits_append : (p q : List ℕ) → all_digits p ≡ true → all_digits (p ++ q) ≡ all_digits q
+digits_append [] q e = refl
+digits_append (b ∷ p) q e =
+    let both = and_parts (is_digit b) (all_digits p) e in
+    rw both.0 (digits_append p q both.1)
 
--- a field is no number where it is empty, where a byte is no digit, and where it is too large
-pub empty_none : (f : List ℕ) → length f ≤ 0 → is_number f ≡ false
-empty_none f h = and_left _ _ (le-ltb 0 (length f) h)
+value_append : (n : ℕ) (p q : List ℕ) → value_after n (p ++ q) ≡ value_after (value_after n p) q
+value_append n [] q = refl
+value_append n (b ∷ p) q = value_append (n * 10 + (b - 48)) p q
 
-pub byte_none : (f : List ℕ) → all_digits f ≡ false → is_number f ≡ false
-byte_none f e = and_right (ltb 0 (length f)) _ (and_left _ _ e)
+-- digits are pushed one by one
+pub digits_pushed : {F : Type 0} (turn : F × ℕ → Bor ℕ → F × ℕ → Type 0) → ((p : F × ℕ) (x : Bor ℕ) (q : F × ℕ) → turn p x q → (is_digit x.now ≡ true) × (q.1 ≡ p.1 * 10 + (x.now - 48)) × (q.1 < 2 ^ 32)) → (xs : List (Bor ℕ)) (p q : F × ℕ) → FoldsTo turn p xs q → p.1 < 2 ^ 32 → (all_digits (map (λ x. x.now) xs) ≡ true) × (q.1 ≡ value_after p.1 (map (λ x. x.now) xs)) × (q.1 < 2 ^ 32)
+digits_pushed turn one [] p q e fits = (refl, sym (ap (λ x. x.1) e), subst (λ n. n < 2 ^ 32) (ap (λ x. x.1) e) fits)
+digits_pushed turn one (x ∷ xs) p q (j, t, more) fits =
+    let here = one p x j t in
+    let rest = digits_pushed turn one xs j q more here.2 in
+    (and_from _ _ here.0 rest.0, rest.1 ∙ ap (λ n. value_after n (map (λ x. x.now) xs)) here.1, rest.2)
 
-pub large_none : (f : List ℕ) → 4_294_967_295 < value f → is_number f ≡ false
-large_none f h = and_right (ltb 0 (length f)) _ (and_right (all_digits f) _ (lt-leb _ _ h))
+-- where the bytes that were taken end: behind the last, or at the byte at hand
+pub turned : {S : Type 0} {steps : S → Option (Bor ℕ) → S → Type 0} {s : S} (all : List ℕ) → YieldsList steps (λ x. x.now) s all → (xs : List (Bor ℕ)) (o : Option (Bor ℕ)) (u : S) → YieldsThen steps s xs o u
+    → (map (λ x. x.now) xs ≡ take (length xs) all) × MatchOption o (length xs ≡ length all) (λ x. (length xs < length all) × (x.now ≡ get_or all (length xs) x.now))
+turned all e xs None u (t, y, step) = (YieldsList-so_far e xs t y, (YieldsList-end e xs t y None u refl step).1)
+turned all e xs (Some x) u (t, y, step) = (YieldsList-so_far e xs t y, YieldsList-turn e xs t y (Some x) u x refl step)
+
+-- what is answered for a field, as an option
+abbrev pub Found : List ℕ → Option ℕ → Type 0
+Found f r = MatchOption r (is_number f ≡ false) (λ n. (is_number f ≡ true) × (n ≡ value f))
+
+number_from : (f : List ℕ) → 0 < length f → all_digits f ≡ true → value f ≤ 4_294_967_295 → is_number f ≡ true
+number_from f some digits small = and_from _ _ (lt-ltb 0 (length f) some) (and_from _ _ digits (le-leb _ _ small))
+
+-- behind digits stands a byte that is none, or that makes the number too large
+not_pushed : (f p : List ℕ) (b : ℕ) (rest : List ℕ) → f ≡ p ++ b ∷ rest → all_digits p ≡ true → (is_digit b ≡ false) ⊎ (2 ^ 32 ≤ value p * 10 + (b - 48)) → is_number f ≡ false
+not_pushed f p b rest e digits (inl other) = and_right (ltb 0 (length f)) _ (and_left _ _ (ap all_digits e ∙ (digits_append p (b ∷ rest) digits ∙ and_left _ _ other)))
+not_pushed f p b rest e digits (inr large) =
+    let v : value f ≡ value_after (value p * 10 + (b - 48)) rest = ap value e ∙ value_append 0 p (b ∷ rest) in
+    let grows = value_grows (value p * 10 + (b - 48)) rest in
+    and_right (ltb 0 (length f)) _ (and_right (all_digits f) _ (lt-leb _ _ (omega arith)))
+
+module _ (f : List ℕ) (k a : ℕ) (some : 0 < length f) (digits : all_digits (take k f) ≡ true) (so_far : a ≡ value (take k f)) (fits : a < 2 ^ 32) where
+  -- all bytes were pushed, or the one at hand was not
+  pub found : (o : Option (Bor ℕ)) (r : Option ℕ) (Stops : Bor ℕ → Type 0) → MatchOption o (k ≡ length f) (λ x. (k < length f) × (x.now ≡ get_or f k x.now)) → MatchOption o (r ≡ Some a) Stops → ((x : Bor ℕ) → Stops x → (r ≡ None) × ((is_digit x.now ≡ false) ⊎ (2 ^ 32 ≤ a * 10 + (x.now - 48)))) → Found f r
+  found None r Stops end e stops =
+      let whole : take k f ≡ f = take_all k f (omega arith) in
+      let same : a ≡ value f = so_far ∙ ap value whole in
+      rw e (number_from f some (sym (ap all_digits whole) ∙ digits) (omega arith), same)
+  found (Some x) r Stops (lt, is) e stops =
+      let stop = stops x e in
+      let parts : f ≡ take k f ++ x.now ∷ drop (k + 1) f = sym (take-append-drop k f) ∙ (ap (λ t. take k f ++ t) (drop_more f k x.now lt) ∙ ap (λ b. take k f ++ b ∷ drop (k + 1) f) (sym is)) in
+      rw stop.0 (not_pushed f (take k f) x.now (drop (k + 1) f) parts digits (subst (λ n. (is_digit x.now ≡ false) ⊎ (2 ^ 32 ≤ n * 10 + (x.now - 48))) so_far stop.1))
 
 -- what reading answers for a field
 abbrev pub Read : List ℕ → Result ℕ FieldFault → Type 0
@@ -39,9 +81,6 @@ number_parts f e =
     let p = and_parts (ltb 0 (length f)) _ e in
     let q = and_parts (all_digits f) (leb (value f) 4_294_967_295) p.1 in
     (ltb-true 0 (length f) p.0, q.0, leb-true _ _ q.1)
-
-pub number_from : (f : List ℕ) → 0 < length f → all_digits f ≡ true → value f ≤ 4_294_967_295 → is_number f ≡ true
-number_from f some digits small = and_from _ _ (lt-ltb 0 (length f) some) (and_from _ _ digits (le-leb _ _ small))
 
 -- the digits of a number are read as that number
 pub reads_written : (f : List ℕ) (r : Result ℕ FieldFault) → Read f r → (n : ℕ) → n < 2 ^ 32 → f ≡ decimal n → r ≡ Ok n

@@ -14,7 +14,8 @@ use Rattle.table.proofs.Unique.{same_bounds}
 use Rattle.demand.specs.declared.speed.Factor.{Factor}
 use Rattle.planfile.specs.declared.fault.Fault.{Fault}
 use Rattle.planfile.specs.declared.fault.LineFault.TheVariants.{Hold}
-use Rattle.planfile.specs.Fault.{Blame, nothing, at_line, first_blame, line_blame, blame}
+use Rattle.planfile.specs.declared.fault.Blame.{Blame}
+use Rattle.planfile.specs.Fault.{nothing, at_line, first_blame, line_blame, blame}
 use Rattle.planfile.specs.Text.{fields}
 use Rattle.planfile.specs.Checks.{clock_checks, entry_of}
 use Rattle.planfile.specs.Reading.{taking, claim_in, clock_fields, file_checks, RowTaken, RowRefused, RowsRead, FileRead}

@@ -1,8 +1,8 @@
 -- The parts of a text, as the text goes on.
-use Rattle.std.proofs.Common.{◌≡◌, ℕ, ◌-◌, ◌<◌, false, eqb, ◌≢◌, List, [], ◌∷◌, ◌++◌, length, take, sym, refl, ap, ◌∙◌, inl, inr, append_assoc, not-suc-le-zero, sub-one, arith, length-append}
-use Rattle.std.proofs.lemmas.List.{append-nil, same_from_push}
-use Rattle.std.proofs.lemmas.Bool.{cases_Bool, cond_both, eq-eqb, ne_eqb}
-use Rattle.planfile.specs.Text.{newline, onto_first, parted_by, lines}
+use Rattle.std.proofs.Common.{◌≡◌, ℕ, ◌+◌, ◌-◌, ◌<◌, ◌≤◌, true, false, eqb, ◌≢◌, List, [], ◌∷◌, ◌++◌, length, get_or, take, drop_of_length-le, sym, refl, ap, ◌∙◌, inl, inr, append_assoc, not-suc-le-zero, sub-one, arith, length-append}
+use Rattle.std.proofs.lemmas.List.{append-nil, same_from_push, length-take, take-append-drop, drop_more}
+use Rattle.std.proofs.lemmas.Bool.{cases_Bool, cond_both, eq-eqb, eqb-true, ne_eqb}
+use Rattle.planfile.specs.Text.{newline, onto_first, parted_by, lines, ended}
 
 -- a text in front of the first part
 abbrev pub onto_front : List ℕ → List (List ℕ) → List (List ℕ)
@@ -98,3 +98,38 @@ pub first_line : (p rest : List ℕ) → parted_by newline p ≡ p ∷ [] → li
 first_line p rest one =
     let two : parted_by newline (p ++ newline ∷ rest) ≡ p ∷ parted_by newline rest = parted_at newline p rest [] p one in
     rw two (lines_cons p (parted_by newline rest) (some_part newline rest))
+
+-- a byte in front makes at most one part more
+first_few : (b : ℕ) (qs : List (List ℕ)) → length (onto_first b qs) ≤ length qs + 1
+first_few b [] = omega arith
+first_few b (q ∷ qs) = omega arith
+
+-- there is at most one part more than there are bytes
+parted_few : (sep : ℕ) (xs : List ℕ) → length (parted_by sep xs) ≤ length xs + 1
+parted_few sep [] = omega arith
+parted_few sep (b ∷ xs) =
+    let rest = parted_few sep xs in
+    cond_both (eqb b sep) ([] ∷ parted_by sep xs) (onto_first b (parted_by sep xs)) (λ ps. length ps ≤ length (b ∷ xs) + 1) (λ _. omega arith)
+    (λ _. omega (arith, first_few b (parted_by sep xs)))
+
+-- there are no more lines than bytes
+pub few_lines : (text : List ℕ) → length (lines text) ≤ length text
+few_lines text =
+    let few = parted_few newline text in
+    simp length-take (omega arith)
+
+-- a text that is ended by a newline has a line
+pub ended_line : (text : List ℕ) → ended text ≡ true → 0 < length (lines text)
+ended_line [] e = let z : ◌≡◌ {A = ℕ} 0 10 = eqb-true 0 10 e in omega arith
+ended_line (b ∷ bs) e =
+    let text : List ℕ = b ∷ bs in
+    let n : ℕ = length bs in
+    let last : get_or text n 0 ≡ newline = ap (λ k. get_or text k 0) (let z : n ≡ length text - 1 = omega arith in z) ∙ eqb-true _ _ e in
+    let whole : text ≡ take n text ++ newline ∷ [] =
+    sym (take-append-drop n text)
+    ∙ (ap (λ t. take n text ++ t) (drop_more text n 0 (omega arith))
+    ∙ (ap (λ t. take n text ++ get_or text n 0 ∷ t) (drop_of_length-le text (omega arith)) ∙ ap (λ l. take n text ++ l ∷ []) last))
+    in
+    let g = goes_on newline (take n text) in
+    let parts = ap length (ap (parted_by newline) whole ∙ parted_at newline (take n text) [] g.done g.last g.cut) in
+    simp length-take (omega (arith, simp length-append at parts))

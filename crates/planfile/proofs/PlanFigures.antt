@@ -8,8 +8,7 @@ use Rattle.analysis.specs.Ranks.{Claim, system_of}
 use Rattle.analysis.proofs.Tested.{bound_by}
 use Rattle.demand.specs.Refusals.{first}
 use Rattle.table.specs.Account.{AllInTime, hold_checks}
-use Rattle.planfile.specs.declared.entry.Entry.{Entry}
-use Rattle.planfile.specs.Checks.{claim_of, line_checks}
+use Rattle.planfile.specs.Checks.{Entry, claim_of, line_checks}
 use Rattle.planfile.specs.Figures.{PlanFigures, even_clock, entry_with, garage_entries, garage_file}
 use Rattle.planfile.specs.Fault.{nothing, first_blame}
 use Rattle.planfile.specs.Laws.{numbers_of, jobs_numbers, AllFit, Writable, SoundPlan}

@@ -6,11 +6,11 @@ use Rattle.analysis.specs.Judge.{InTime}
 use Rattle.analysis.specs.Ranks.{Claim}
 use Rattle.table.specs.Account.{Refused}
 use Rattle.demand.specs.declared.speed.Factor.{Factor}
-use Rattle.planfile.specs.declared.entry.Entry.{Entry}
 use Rattle.planfile.specs.declared.fault.Fault.{Fault}
-use Rattle.planfile.specs.Fault.{Blame, nothing, by, first_blame, blame}
+use Rattle.planfile.specs.declared.fault.Blame.{Blame}
+use Rattle.planfile.specs.Fault.{nothing, by, first_blame, blame}
 use Rattle.planfile.specs.Text.{newline, lines, fields, ended}
-use Rattle.planfile.specs.Checks.{clock_checks, clock_of, line_checks, claim_of}
+use Rattle.planfile.specs.Checks.{Entry, clock_checks, clock_of, line_checks, claim_of}
 use Rattle.planfile.specs.Reading.{taking, clock_fields, file_checks, RowRefused, RowsRead, FileRead}
 use Rattle.planfile.specs.Loading.{Loaded}
 use Rattle.planfile.specs.Laws.{plan_text, claims_onto, NumbersPass, SoundPlan, RoundTrip}

@@ -1,9 +1,10 @@
 -- Rows that are in time together are accepted one by one. Assumes nothing.
 use Rattle.std.proofs.Common.{◌≡◌, ◌+◌, ◌≤◌, List, [], ◌∷◌, length, sym, refl, ◌∙◌, arith}
 use Rattle.demand.specs.Demand.{Lawful}
+use Rattle.demand.specs.Basic.{every_demand, heavy_demand}
 use Rattle.demand.specs.Made.{delayed}
 use Rattle.demand.specs.Refusals.{first}
-use Rattle.demand.specs.Laws.{every_lawful, heavy_lawful, delayed_lawful, slowed_lawful}
+use Rattle.demand.specs.Laws.{every_lawful, heavy_lawful, either_lawful, delayed_lawful, slowed_lawful}
 use Rattle.analysis.specs.Ranks.{Claim, DistinctPriorities, system_of}
 use Rattle.analysis.specs.Removal.{SomeOf, none, keep, leave}
 use Rattle.analysis.proofs.Best.{late_no_plan}
@@ -14,16 +15,12 @@ use Rattle.table.specs.Agreement.{LawfulRows}
 use Rattle.table.proofs.Promise.{is_late}
 use Rattle.table.proofs.Shared.{needs_grow, ranked_lawful, has_plan, passed}
 use Rattle.demand.specs.declared.speed.Factor.{Factor}
-use Rattle.planfile.specs.declared.entry.Entry.{Entry}
-use Rattle.planfile.specs.declared.entry.Jobs.{Jobs}
-use Rattle.planfile.specs.declared.entry.Jobs.TheVariants.{Every, Heavy}
-use Rattle.planfile.specs.Checks.{jobs_demand, claim_of}
+use Rattle.planfile.specs.Checks.{Jobs, Entry, jobs_demand, claim_of}
 use Rattle.planfile.specs.Reading.{taking}
 use Rattle.planfile.specs.Laws.{claims_onto, NumbersPass}
 
 jobs_lawful : (jobs : Jobs) → Lawful (jobs_demand jobs)
-jobs_lawful (Every c t) = every_lawful c t
-jobs_lawful (Heavy c h m t) = heavy_lawful c h m t
+jobs_lawful = either_lawful every_demand heavy_demand (λ k. every_lawful k.job k.period) (λ k. heavy_lawful k.job k.heavy k.among k.period)
 
 pub claim_lawful : (clock : Factor) (e : Entry) → Lawful (claim_of clock e).demand
 claim_lawful clock e =

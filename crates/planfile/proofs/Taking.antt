@@ -1,50 +1,97 @@
 -- A row line that is refused, and one whose row is held and kept. Assumes nothing.
-use Rattle.std.proofs.Common.{◌≡◌, ℕ, ◌-◌, cond, List, [], ◌∷◌, ◌++◌, length, Ok, Err, sym, refl, ap, ◌∙◌, subst, inl, inr}
+use Rattle.std.proofs.Common.{◌≡◌, ℕ, ◌-◌, Bool, cond, ◌≢◌, List, [], ◌∷◌, ◌++◌, length, Ok, Err, IsOk, Result, sym, refl, ap, ◌∙◌, subst}
+use Rattle.analysis.specs.declared.Row.{Row}
+use Rattle.analysis.specs.declared.Task.{Task}
 use Rattle.analysis.specs.Ranks.{Claim}
+use Rattle.demand.specs.declared.jitter.Delayed.{Delayed}
 use Rattle.demand.specs.Demand.{Demand}
-use Rattle.demand.specs.declared.KindRefusal.{KindRefusal}
-use Rattle.demand.specs.Refusals.{first, refusal_number}
+use Rattle.demand.specs.Refusals.{first, delayed_checks}
 use Rattle.table.specs.declared.Hold.{Hold as Token}
-use Rattle.table.specs.declared.HoldRefusal.{HoldRefusal}
 use Rattle.table.specs.declared.SpendRefusal.{SpendRefusal}
 use Rattle.table.specs.declared.SpendRefusal.TheVariants.{NotHeld}
 use Rattle.table.specs.declared.Table.{Table}
-use Rattle.table.specs.Account.{Account, Accepted, Refused, Holds, Spends, number_of, unspent, with_row, with_kept}
+use Rattle.table.specs.Account.{Account, Accepted, Holds, Spends, number_of, unspent, with_row, with_kept}
 use Rattle.table.specs.Agreement.{AgreesWith}
 use Rattle.table.proofs.Given.{clash, given, given_bears}
 use Rattle.demand.specs.declared.speed.Factor.{Factor}
-use Rattle.planfile.specs.declared.entry.Entry.{Entry}
-use Rattle.planfile.specs.declared.fault.LineFault.{LineFault}
-use Rattle.planfile.specs.declared.fault.LineFault.TheVariants.{Kind, Hold}
-use Rattle.planfile.specs.Fault.{nothing, by, first_blame, line_blame}
-use Rattle.planfile.specs.Checks.{word_checks, number_checks, text_checks, line_checks, blaming_none, kind_checks, entry_of, claim_of}
-use Rattle.planfile.specs.Reading.{taking, claim_in, RowRefused}
-use Rattle.planfile.proofs.Blames.{Numbered, passed, stopped, numbered_append, numbered_words, numbered_numbers, fault_numbered, first_of_none}
+use Rattle.planfile.specs.declared.fault.Blame.{Blame}
+use Rattle.planfile.specs.Fault.{nothing, by, first_blame}
+use Rattle.planfile.specs.Checks.{Jobs, row_of, task_of, word_checks, number_checks, number_in, line_checks, blaming_none, jobs_checks, jobs_demand, entry_of, row_demand}
+use Rattle.planfile.specs.Reading.{taking, claim_in}
+use Rattle.std.proofs.lemmas.List.{map-append, append_assoc}
+use Rattle.planfile.proofs.Blames.{Numbered, passed, stopped, numbered_append, numbered_words, numbered_numbers, numbered_jobs, first_of_none}
 
-numbered_text : (fs : List (List ℕ)) → Numbered (text_checks fs)
-numbered_text fs =
-    numbered_append (word_checks fs) (number_checks fs 2 14 ++ number_checks fs 17 (length fs - 16)) (numbered_words fs)
-    (numbered_append (number_checks fs 2 14) (number_checks fs 17 (length fs - 16)) (numbered_numbers fs 2 14) (numbered_numbers fs 17 (length fs - 16)))
+-- lists of checks in a row: what the first list does not decide, the next does
+module _ (w n m : List (Bool × Blame)) (j d : List (Bool × ℕ)) where
+  abbrev all_checks : List (Bool × Blame)
+  all_checks = (w ++ (n ++ m)) ++ blaming_none (j ++ d)
 
--- where the text passes, the kind decides
-kind_decides : (fs : List (List ℕ)) → first_blame (text_checks fs) ≡ nothing → first_blame (line_checks fs) ≡ by (first (kind_checks (entry_of fs)))
-kind_decides fs text =
-    passed (text_checks fs) (blaming_none (kind_checks (entry_of fs))) (numbered_text fs) text ∙ first_of_none (kind_checks (entry_of fs))
+  abbrev jobs : List (Bool × Blame)
+  jobs = m ++ blaming_none j
 
-module _ (clock : Factor) (rows : List Claim) (fs : List (List ℕ)) where
-  pub text_refused : (f : LineFault) → first_blame (text_checks fs) ≡ line_blame f → RowRefused clock rows fs (line_blame f)
-  text_refused f e =
-      inl (stopped (text_checks fs) (blaming_none (kind_checks (entry_of fs))) (line_blame f) (fault_numbered f) e, fault_numbered f)
+  in_a_row : all_checks ≡ w ++ (n ++ (jobs ++ blaming_none d))
+  in_a_row = ap (λ bs. (w ++ (n ++ m)) ++ bs) (map-append (λ (check : Bool × ℕ). (check.0, by check.1)) j d) ∙ simp append_assoc
 
-  pub kind_refused : (e : KindRefusal) → first_blame (text_checks fs) ≡ nothing → refusal_number e ≡ first (kind_checks (entry_of fs)) → RowRefused clock rows fs (line_blame (Kind e))
-  kind_refused e text kind = inl (kind_decides fs text ∙ ap by (sym kind), fault_numbered (Kind e))
+  first_list : (b : Blame) → b.number ≢ 0 → first_blame w ≡ b → first_blame all_checks ≡ b
+  first_list b some e = ap first_blame in_a_row ∙ stopped w (n ++ (jobs ++ blaming_none d)) b some e
 
-  -- the checks of the line pass
-  pub line_passes : first_blame (text_checks fs) ≡ nothing → 0 ≡ first (kind_checks (entry_of fs)) → first_blame (line_checks fs) ≡ nothing
-  line_passes text kind = kind_decides fs text ∙ ap by (sym kind)
+  module _ (numbered : Numbered w) (past : first_blame w ≡ nothing) where
+    past_first : first_blame all_checks ≡ first_blame (n ++ (jobs ++ blaming_none d))
+    past_first = ap first_blame in_a_row ∙ passed w (n ++ (jobs ++ blaming_none d)) numbered past
 
-  pub hold_refused : (e : HoldRefusal) → first_blame (line_checks fs) ≡ nothing → Refused (taking rows) (claim_in clock fs) e → RowRefused clock rows fs (line_blame (Hold e))
-  hold_refused e line refused = inr (line, (e, refused, refl))
+    second_list : (b : Blame) → b.number ≢ 0 → first_blame n ≡ b → first_blame all_checks ≡ b
+    second_list b some e = past_first ∙ stopped n (jobs ++ blaming_none d) b some e
+
+    module _ (numbered_n : Numbered n) (past_n : first_blame n ≡ nothing) where
+      past_second : first_blame all_checks ≡ first_blame (jobs ++ blaming_none d)
+      past_second = past_first ∙ passed n (jobs ++ blaming_none d) numbered_n past_n
+
+      third_list : (b : Blame) → b.number ≢ 0 → first_blame jobs ≡ b → first_blame all_checks ≡ b
+      third_list b some e = past_second ∙ stopped jobs (blaming_none d) b some e
+
+      fourth_list : (k : ℕ) → Numbered jobs → first_blame jobs ≡ nothing → k ≡ first d → first_blame all_checks ≡ by k
+      fourth_list k numbered_j e is =
+          past_second ∙ (passed jobs (blaming_none d) numbered_j e ∙ (first_of_none d ∙ ap by (sym is)))
+
+module _ (fs : List (List ℕ)) where
+  abbrev numbers_of_jobs : List (Bool × Blame)
+  numbers_of_jobs = number_checks fs 17 (length fs - 16)
+
+  abbrev of_jobs : List (Bool × ℕ)
+  of_jobs = jobs_checks (entry_of fs).jobs
+
+  abbrev of_delay : List (Bool × ℕ)
+  of_delay = delayed_checks (number_in fs 7) (jobs_demand (entry_of fs).jobs)
+
+  -- the words are refused
+  pub by_words : (b : Blame) → b.number ≢ 0 → first_blame (word_checks fs) ≡ b → first_blame (line_checks fs) ≡ b
+  by_words = first_list (word_checks fs) (number_checks fs 2 14) numbers_of_jobs of_jobs of_delay
+
+  module _ (words : first_blame (word_checks fs) ≡ nothing) where
+    -- the words pass, and a number of the row is refused
+    pub by_numbers : (b : Blame) → b.number ≢ 0 → first_blame (number_checks fs 2 14) ≡ b → first_blame (line_checks fs) ≡ b
+    by_numbers = second_list (word_checks fs) (number_checks fs 2 14) numbers_of_jobs of_jobs of_delay (numbered_words fs) words
+
+    module _ (numbers : first_blame (number_checks fs 2 14) ≡ nothing) where
+      -- the numbers of the row pass, and the jobs are refused
+      pub by_jobs : (b : Blame) → b.number ≢ 0 → first_blame (numbers_of_jobs ++ blaming_none of_jobs) ≡ b → first_blame (line_checks fs) ≡ b
+      by_jobs = third_list (word_checks fs) (number_checks fs 2 14) numbers_of_jobs of_jobs of_delay (numbered_words fs) words (numbered_numbers fs 2 14) numbers
+
+      -- the jobs pass, so the delay decides
+      pub by_delay : (k : ℕ) → first_blame (numbers_of_jobs ++ blaming_none of_jobs) ≡ nothing → k ≡ first of_delay → first_blame (line_checks fs) ≡ by k
+      by_delay k = fourth_list (word_checks fs) (number_checks fs 2 14) numbers_of_jobs of_jobs of_delay (numbered_words fs) words (numbered_numbers fs 2 14) numbers k
+          (numbered_append numbers_of_jobs (blaming_none of_jobs) (numbered_numbers fs 17 (length fs - 16)) (numbered_jobs (entry_of fs).jobs))
+
+-- what was read of a row line, by its parts
+module _ (fs : List (List ℕ)) (row : Row) (delay : ℕ) (jobs : Jobs) (read : ◌≡◌ {A = Row × ℕ} (row, delay) (row_of fs, number_in fs 7)) (named : jobs ≡ (entry_of fs).jobs) where
+  pub delay_is : first (delayed_checks delay (jobs_demand jobs)) ≡ first (of_delay fs)
+  delay_is = ap (λ (x : Row × ℕ). first (delayed_checks x.1 (jobs_demand jobs))) read ∙ ap (λ (j : Jobs). first (delayed_checks (number_in fs 7) (jobs_demand j))) named
+
+  pub task_is : (kind : Delayed Jobs) → kind.kind ≡ jobs → kind.delay ≡ delay → ◌≡◌ {A = Task (Delayed Jobs)} (record { row = row; kind = kind }) (task_of fs)
+  task_is kind k d =
+      let jobs_are = k ∙ named in
+      let delay_are = d ∙ ap (λ (x : Row × ℕ). x.1) read in
+      λ i. record { row = (read i).0; kind = record { kind = jobs_are i; delay = delay_are i } }
 
 -- a row that was held and kept is one row more, and no hold is left
 kept : (rows : List Claim) (c : Claim) (h : Token) → Accepted (taking rows) c h → with_kept (with_row (taking rows) c) h ≡ taking (c ∷ rows)
@@ -56,22 +103,32 @@ module _ {K : Type 0} (demand : K → Demand) (t u v : Table K) (rows : List Cla
   abbrev pub Held : Type 0
   Held = (a : Account) → AgreesWith demand a t → (b : Account) × Holds a c (Ok h) b × AgreesWith demand b u
 
+  -- what keeping the hold does to each account
+  abbrev pub Keeping : Result (Unit {0}) SpendRefusal → Type 0
+  Keeping r = (a : Account) → AgreesWith demand a u → (b : Account) × Spends a h (with_kept a h) r b × AgreesWith demand b v
+
   -- a hold in hand is kept without refusal
-  pub not_refused : (e : SpendRefusal) → Held → ((a : Account) → AgreesWith demand a u → (b : Account) × Spends a h (with_kept a h) (Err e) b × AgreesWith demand b v) → AgreesWith demand (taking rows) t → ⊥
-  not_refused (NotHeld back) hold keep agrees =
+  pub not_refused : (r : Result (Unit {0}) SpendRefusal) → Held → Keeping r → AgreesWith demand (taking rows) t → IsOk r
+  not_refused (Ok x) hold keep agrees = refl
+  not_refused (Err (NotHeld back)) hold keep agrees =
       let p = hold (taking rows) agrees in
       let q = keep p.0 p.2 in
-      clash (unspent h.table h.row p.0.holds)
+      absurd
+      (clash (unspent h.table h.row p.0.holds)
       (ap (λ (a : Account). unspent h.table h.row a.holds) p.1.1 ∙ given (taking rows) c h p.1.0)
-      q.1.0
+      q.1.0)
 
-  pub held_and_kept : Held → ((a : Account) → AgreesWith demand a u → (b : Account) × Spends a h (with_kept a h) (Ok tt) b × AgreesWith demand b v) → AgreesWith demand (taking rows) t → Accepted (taking rows) c h × AgreesWith demand (taking (c ∷ rows)) v
+  pub held_and_kept : Held → Keeping (Ok tt) → AgreesWith demand (taking rows) t → Accepted (taking rows) c h × AgreesWith demand (taking (c ∷ rows)) v
   held_and_kept hold keep agrees =
       let p = hold (taking rows) agrees in
       let q = keep p.0 p.2 in
       let e : q.0 ≡ taking (c ∷ rows) = q.1.1 ∙ (ap (λ (a : Account). with_kept a h) p.1.1 ∙ kept rows c h p.1.0) in
       (p.1.0, subst (λ (a : Account). AgreesWith demand a v) e q.2)
 
--- the row that is held is that of the line
-pub same_claim : (clock : Factor) (fs : List (List ℕ)) (entry : Entry) (d : Demand) → entry ≡ entry_of fs → d ≡ (claim_of clock entry).demand → ◌≡◌ {A = Claim} (record { row = entry.row; demand = d }) (claim_in clock fs)
-same_claim clock fs entry d e f = ap (λ (x : Demand). record { row = entry.row; demand = x }) f ∙ ap (claim_of clock) e
+-- the row that is held, with the meaning of its kind
+abbrev pub held_claim : Factor → Task (Delayed Jobs) → Claim
+held_claim clock t = record { row = t.row; demand = row_demand (record { kind = t.kind; factor = clock }) }
+
+-- it is that of the line
+pub same_claim : (clock : Factor) (fs : List (List ℕ)) (t : Task (Delayed Jobs)) → t ≡ task_of fs → held_claim clock t ≡ claim_in clock fs
+same_claim clock fs t e = ap (held_claim clock) e

@@ -5,11 +5,11 @@ use Rattle.std.proofs.lemmas.List.{append_assoc, length-append, length-map}
 use Rattle.std.proofs.lemmas.Str.Parse.{IsNumeralModel, numerals_by_fold}
 use Rattle.std.proofs.lemmas.Bool.{and_parts, and_from, leb-true, lt-ltb, le-leb, ne_eqb, not_from_true}
 use Rattle.demand.specs.declared.speed.Factor.{Factor}
-use Rattle.planfile.specs.declared.entry.Entry.{Entry}
-use Rattle.planfile.specs.declared.entry.Jobs.{Jobs}
-use Rattle.planfile.specs.declared.entry.Jobs.TheVariants.{Every, Heavy}
+use Rattle.either.specs.declared.Either.TheVariants.{Left, Right}
+use Rattle.planfile.specs.Checks.{Jobs, Entry}
 use Rattle.planfile.specs.Text.{newline, tab, is_digit, all_digits, value_after, value, is_number}
-use Rattle.planfile.specs.Laws.{number_fields, jobs_text, numbers_of, row_text, rows_text, clock_text, plan_text, AllFit, jobs_numbers, Writable}
+use Rattle.planfile.specs.Report.{number_fields}
+use Rattle.planfile.specs.Laws.{jobs_text, numbers_of, row_text, rows_text, clock_text, plan_text, AllFit, jobs_numbers, Writable}
 use Rattle.planfile.proofs.Joined.{Lacks, Part, Parts, parts_append, tabbed, tabbed_append, with_newlines}
 
 -- the digits of a file are decimal digits, and their value is what they write
@@ -53,19 +53,19 @@ numbers_tabbed (n ∷ ns) = ap (λ (t : List ℕ). tab ∷ (decimal n ++ t)) (nu
 
 -- the word of a kind, and its numbers
 abbrev pub jobs_parts : Jobs → List (List ℕ)
-jobs_parts (Every c t) = codes "every" ∷ map decimal (c ∷ t ∷ [])
-jobs_parts (Heavy c h m t) = codes "heavy" ∷ map decimal (c ∷ h ∷ m ∷ t ∷ [])
+jobs_parts (Left k) = codes "every" ∷ map decimal (k.job ∷ k.period ∷ [])
+jobs_parts (Right k) = codes "heavy" ∷ map decimal (k.job ∷ k.heavy ∷ k.among ∷ k.period ∷ [])
 
 jobs_tabbed : (jobs : Jobs) → jobs_text jobs ≡ tabbed (jobs_parts jobs)
-jobs_tabbed (Every c t) = ap (λ (s : List ℕ). tab ∷ (codes "every" ++ s)) (numbers_tabbed (c ∷ t ∷ []))
-jobs_tabbed (Heavy c h m t) = ap (λ (s : List ℕ). tab ∷ (codes "heavy" ++ s)) (numbers_tabbed (c ∷ h ∷ m ∷ t ∷ []))
+jobs_tabbed (Left k) = ap (λ (s : List ℕ). tab ∷ (codes "every" ++ s)) (numbers_tabbed (k.job ∷ k.period ∷ []))
+jobs_tabbed (Right k) = ap (λ (s : List ℕ). tab ∷ (codes "heavy" ++ s)) (numbers_tabbed (k.job ∷ k.heavy ∷ k.among ∷ k.period ∷ []))
 
 word_part : (word : List ℕ) → Lacks tab word → Lacks newline word → length word ≤ 10 → Part word
 word_part word t n s = record { no_tab = t; no_newline = n; short = s }
 
 jobs_parts_are : (jobs : Jobs) → AllFit (jobs_numbers jobs) → Parts (jobs_parts jobs) × (length (jobs_parts jobs) ≤ 5)
-jobs_parts_are (Every c t) h = ((word_part (codes "every") (refl, (refl, (refl, (refl, (refl, tt))))) (refl, (refl, (refl, (refl, (refl, tt))))) (omega arith), decimal_parts (c ∷ t ∷ []) h), omega arith)
-jobs_parts_are (Heavy c l m t) h = ((word_part (codes "heavy") (refl, (refl, (refl, (refl, (refl, tt))))) (refl, (refl, (refl, (refl, (refl, tt))))) (omega arith), decimal_parts (c ∷ l ∷ m ∷ t ∷ []) h), omega arith)
+jobs_parts_are (Left k) h = ((word_part (codes "every") (refl, (refl, (refl, (refl, (refl, tt))))) (refl, (refl, (refl, (refl, (refl, tt))))) (omega arith), decimal_parts (k.job ∷ k.period ∷ []) h), omega arith)
+jobs_parts_are (Right k) h = ((word_part (codes "heavy") (refl, (refl, (refl, (refl, (refl, tt))))) (refl, (refl, (refl, (refl, (refl, tt))))) (omega arith), decimal_parts (k.job ∷ k.heavy ∷ k.among ∷ k.period ∷ []) h), omega arith)
 
 -- the fields of a row line behind its word
 abbrev pub row_parts : Entry → List (List ℕ)

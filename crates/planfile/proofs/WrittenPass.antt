@@ -4,12 +4,11 @@ use Rattle.std.proofs.lemmas.Bool.{cond-false}
 use Rattle.demand.specs.Refusals.{first, delayed_checks, slowed_checks}
 use Rattle.table.proofs.Shared.{Numbered, not_taken}
 use Rattle.demand.specs.declared.speed.Factor.{Factor}
-use Rattle.planfile.specs.declared.entry.Entry.{Entry}
-use Rattle.planfile.specs.declared.entry.Jobs.{Jobs}
-use Rattle.planfile.specs.declared.entry.Jobs.TheVariants.{Every, Heavy}
-use Rattle.planfile.specs.Fault.{Blame, nothing, first_blame, by}
+use Rattle.either.specs.declared.Either.TheVariants.{Left, Right}
+use Rattle.planfile.specs.declared.fault.Blame.{Blame}
+use Rattle.planfile.specs.Fault.{nothing, first_blame, by}
 use Rattle.planfile.specs.Text.{fields, field, word_of, value, is_number}
-use Rattle.planfile.specs.Checks.{number_checks, blaming_none, clock_of, clock_checks, entry_of, jobs_in, word_checks, text_checks, jobs_demand, jobs_checks, kind_checks, line_checks}
+use Rattle.planfile.specs.Checks.{Jobs, Entry, number_checks, blaming_none, clock_of, clock_checks, entry_of, jobs_in, word_checks, text_checks, jobs_demand, jobs_checks, kind_checks, line_checks}
 use Rattle.planfile.specs.Laws.{numbers_of, AllFit, jobs_numbers, Writable}
 use Rattle.planfile.proofs.Joined.{Parts, fields_are}
 use Rattle.planfile.proofs.WrittenLines.{reads, number_passes, decimal_parts, row_parts, row_parts_are, row_word, row_line, clock_word, clock_parts, clock_line}
@@ -121,8 +120,8 @@ module _ (e : Entry) (ss : List ℕ) where
   line jobs = row_written (eight jobs)
 
   words_pass : (jobs : Jobs) → NoneApplies (word_checks (line jobs))
-  words_pass (Every c t) = (refl, (refl, (refl, (refl, tt))))
-  words_pass (Heavy c h m t) = (refl, (refl, (refl, (refl, tt))))
+  words_pass (Left k) = (refl, (refl, (refl, (refl, tt))))
+  words_pass (Right k) = (refl, (refl, (refl, (refl, tt))))
 
   front_passes : (jobs : Jobs) → AllFit (numbers_of (eight jobs)) → NoneApplies (number_checks (line jobs) 2 14)
   front_passes jobs n =
@@ -130,12 +129,12 @@ module _ (e : Entry) (ss : List ℕ) where
       (refl, (refl, (refl, (refl, (refl, (refl, (refl, (refl, (refl, (refl, (refl, (refl, (refl, (refl, tt)))))))))))))) n
 
   back_passes : (jobs : Jobs) → AllFit (jobs_numbers jobs) → NoneApplies (number_checks (line jobs) 17 (length (line jobs) - 16))
-  back_passes (Every c t) j = numbers_pass (line (Every c t)) 17 (c ∷ t ∷ []) (refl, (refl, tt)) j
-  back_passes (Heavy c h m t) j = numbers_pass (line (Heavy c h m t)) 17 (c ∷ h ∷ m ∷ t ∷ []) (refl, (refl, (refl, (refl, tt)))) j
+  back_passes (Left k) j = numbers_pass (line (Left k)) 17 (k.job ∷ k.period ∷ []) (refl, (refl, tt)) j
+  back_passes (Right k) j = numbers_pass (line (Right k)) 17 (k.job ∷ k.heavy ∷ k.among ∷ k.period ∷ []) (refl, (refl, (refl, (refl, tt)))) j
 
   jobs_said : (jobs : Jobs) → AllFit (jobs_numbers jobs) → jobs_in (line jobs) (word_of (field 16 (line jobs))) ≡ jobs
-  jobs_said (Every c t) j = λ i. Every (reads c j.0 i) (reads t j.1.0 i)
-  jobs_said (Heavy c h m t) j = λ i. Heavy (reads c j.0 i) (reads h j.1.0 i) (reads m j.1.1.0 i) (reads t j.1.1.1.0 i)
+  jobs_said (Left k) j = λ i. Left (record { job = reads k.job j.0 i; period = reads k.period j.1.0 i })
+  jobs_said (Right k) j = λ i. Right (record { job = reads k.job j.0 i; heavy = reads k.heavy j.1.0 i; among = reads k.among j.1.1.0 i; period = reads k.period j.1.1.1.0 i })
 
   eight_said : (jobs : Jobs) → SaidByLine (eight jobs)
   eight_said jobs n j = (
@@ -157,8 +156,8 @@ module _ (e : Entry) (ss : List ℕ) where
 
 -- the checks of a kind have numbers from 1 to 4
 kind_numbered : (jobs : Jobs) (delay : ℕ) → Numbered 1 4 (jobs_checks jobs ++ delayed_checks delay (jobs_demand jobs))
-kind_numbered (Every c t) delay = ((omega arith, omega arith), ((omega arith, omega arith), ((omega arith, omega arith), tt)))
-kind_numbered (Heavy c h m t) delay = ((omega arith, omega arith), ((omega arith, omega arith), ((omega arith, omega arith), tt)))
+kind_numbered (Left k) delay = ((omega arith, omega arith), ((omega arith, omega arith), ((omega arith, omega arith), tt)))
+kind_numbered (Right k) delay = ((omega arith, omega arith), ((omega arith, omega arith), ((omega arith, omega arith), tt)))
 
 module _ (e : Entry) (w : Writable e) where
   said : NoneApplies (text_checks (row_written e)) × (entry_of (row_written e) ≡ e)

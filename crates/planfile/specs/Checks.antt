@@ -1,11 +1,13 @@
 -- The lines of a plan file: which checks each meets, and what it says. Assumes nothing.
 use Rattle.std.specs.Prelude.{◌≡◌, ℕ, zero, suc, ◌+◌, ◌-◌, Bool, true, false, not, List, [], ◌∷◌, ◌++◌, map, length, Ok, Err, Result, ◌==◌, nat_lt}
 use Rattle.analysis.specs.declared.Row.{Row}
+use Rattle.analysis.specs.declared.Task.{Task}
 use Rattle.analysis.specs.Ranks.{Claim}
 use Rattle.demand.specs.Demand.{Demand}
-use Rattle.demand.specs.Basic.{every, heavy, every_demand, heavy_demand}
+use Rattle.demand.specs.Basic.{every_demand, heavy_demand}
 use Rattle.demand.specs.Made.{delayed, slowed, delayed_demand, slowed_demand, either_demand}
 use Rattle.either.specs.declared.Either.{Either}
+use Rattle.either.specs.declared.Either.TheVariants.{Left, Right}
 use Rattle.demand.specs.declared.jitter.Delayed.{Delayed}
 use Rattle.demand.specs.declared.pattern.Heavy.{Heavy as HeavyKind}
 use Rattle.demand.specs.declared.periodic.Every.{Every as EveryKind}
@@ -14,11 +16,9 @@ use Rattle.demand.specs.Refusals.{every_checks, heavy_checks, delayed_checks, sl
 use Rattle.planfile.specs.declared.word.Word.{Word}
 use Rattle.planfile.specs.declared.word.Word.TheVariants.{Clock, Row as RowWord, Every, Heavy, Other}
 use Rattle.demand.specs.declared.speed.Factor.{Factor}
-use Rattle.planfile.specs.declared.entry.Entry.{Entry}
-use Rattle.planfile.specs.declared.entry.Jobs.{Jobs}
-use Rattle.planfile.specs.declared.entry.Jobs.TheVariants.{Every as EveryJobs, Heavy as HeavyJobs}
 use Rattle.planfile.specs.declared.fault.LineFault.{LineFault}
-use Rattle.planfile.specs.Fault.{Blame, nothing, by, by_field, first_blame, line_blame}
+use Rattle.planfile.specs.declared.fault.Blame.{Blame}
+use Rattle.planfile.specs.Fault.{nothing, by, by_field, first_blame, line_blame}
 use Rattle.planfile.specs.Text.{field, word_of, is_number, value}
 
 abbrev pub is_clock : Word → Bool
@@ -72,13 +72,17 @@ clock_checks fs =
     ∷ (not (length fs == 3), by 15)
     ∷ (number_checks fs 2 2 ++ blaming_none (slowed_checks (number_in fs 2) (number_in fs 3)))
 
+-- the jobs of a row
+abbrev pub Jobs : Type 0
+Jobs = Either EveryKind HeavyKind
+
 -- the jobs that a row line gives, by the word in field 16
 abbrev pub jobs_in : List (List ℕ) → Word → Jobs
-jobs_in fs Clock = EveryJobs 0 0
-jobs_in fs RowWord = EveryJobs 0 0
-jobs_in fs Every = EveryJobs (number_in fs 17) (number_in fs 18)
-jobs_in fs Heavy = HeavyJobs (number_in fs 17) (number_in fs 18) (number_in fs 19) (number_in fs 20)
-jobs_in fs Other = EveryJobs 0 0
+jobs_in fs Clock = Left (record { job = 0; period = 0 })
+jobs_in fs RowWord = Left (record { job = 0; period = 0 })
+jobs_in fs Every = Left (record { job = number_in fs 17; period = number_in fs 18 })
+jobs_in fs Heavy = Right (record { job = number_in fs 17; heavy = number_in fs 18; among = number_in fs 19; period = number_in fs 20 })
+jobs_in fs Other = Left (record { job = 0; period = 0 })
 
 -- the row that a row line gives
 abbrev pub row_of : List (List ℕ) → Row
@@ -90,6 +94,12 @@ row_of fs = record {
   deadline = number_in fs 6;
   sections = numbers_in fs 8 8;
 }
+
+-- A row line.
+pub record Entry : Type 0 where
+  pub row : Row
+  pub delay : ℕ
+  pub jobs : Jobs
 
 -- what a row line says
 abbrev pub entry_of : List (List ℕ) → Entry
@@ -110,12 +120,12 @@ text_checks fs = word_checks fs ++ (number_checks fs 2 14 ++ number_checks fs 17
 
 -- what jobs mean
 abbrev pub jobs_demand : Jobs → Demand
-jobs_demand (EveryJobs c t) = every c t
-jobs_demand (HeavyJobs c h m t) = heavy c h m t
+jobs_demand = either_demand every_demand heavy_demand
 
+-- When the numbers of jobs are refused, in this order.
 abbrev pub jobs_checks : Jobs → List (Bool × ℕ)
-jobs_checks (EveryJobs c t) = every_checks c t
-jobs_checks (HeavyJobs c h m t) = heavy_checks c h m t
+jobs_checks (Left k) = every_checks k.job k.period
+jobs_checks (Right k) = heavy_checks k.job k.heavy k.among k.period
 
 -- When the kind of an entry is refused, in this order.
 abbrev pub kind_checks : Entry → List (Bool × ℕ)
@@ -126,8 +136,8 @@ abbrev pub claim_of : Factor → Entry → Claim
 claim_of clock e = record { row = e.row; demand = slowed clock.numerator clock.denominator (delayed e.delay (jobs_demand e.jobs)) }
 
 -- what a value of the code means: the kind of a row of a plan file
-abbrev pub row_demand : Slowed (Delayed (Either EveryKind HeavyKind)) → Demand
-row_demand = slowed_demand (delayed_demand (either_demand every_demand heavy_demand))
+abbrev pub row_demand : Slowed (Delayed Jobs) → Demand
+row_demand = slowed_demand (delayed_demand jobs_demand)
 
 -- What reading answers: the value where no check applies, else a fault that says what the first says that applies.
 abbrev pub Reads : {A : Type 0} → List (Bool × Blame) → A → Result A LineFault → Type 0
@@ -137,3 +147,7 @@ Reads checks x (Err f) = first_blame checks ≡ line_blame f
 -- When a row line is refused before its row is held, in this order.
 abbrev pub line_checks : List (List ℕ) → List (Bool × Blame)
 line_checks fs = text_checks fs ++ blaming_none (kind_checks (entry_of fs))
+
+-- the row of a row line with its kind, but for the clock
+abbrev pub task_of : List (List ℕ) → Task (Delayed Jobs)
+task_of fs = record { row = row_of fs; kind = record { kind = (entry_of fs).jobs; delay = (entry_of fs).delay } }

@@ -2,17 +2,11 @@
 use Rattle.std.specs.Prelude.{ℕ, Bool, cond, List, [], ◌∷◌}
 use Rattle.demand.specs.Refusals.{refusal_number}
 use Rattle.table.specs.Account.{hold_number, hold_late}
+use Rattle.planfile.specs.declared.fault.Blame.{Blame}
 use Rattle.planfile.specs.declared.fault.Fault.{Fault}
 use Rattle.planfile.specs.declared.fault.Fault.TheVariants.{ReportMemory, File, Line}
 use Rattle.planfile.specs.declared.fault.LineFault.{LineFault}
 use Rattle.planfile.specs.declared.fault.LineFault.TheVariants.{Word, Count, Number, Kind, Hold}
-
--- the number of a check, the line and the field that are to blame, each from 1 and 0 where none is, and the row that would be late, else 0
-pub record Blame : Type 0 where
-  pub number : ℕ
-  pub line : ℕ
-  pub field : ℕ
-  pub late : ℕ
 
 -- no check applies
 abbrev pub nothing : Blame

@@ -2,9 +2,8 @@
 use Rattle.std.specs.Prelude.{◌≡◌, ℕ, List, [], ◌∷◌, Ok, codes}
 use Rattle.analysis.specs.declared.Answer.{Answer}
 use Rattle.demand.specs.declared.speed.Factor.{Factor}
-use Rattle.planfile.specs.declared.entry.Entry.{Entry}
-use Rattle.planfile.specs.declared.entry.Jobs.TheVariants.{Every}
-use Rattle.planfile.specs.Checks.{clock_checks, line_checks}
+use Rattle.either.specs.declared.Either.TheVariants.{Left}
+use Rattle.planfile.specs.Checks.{Entry, clock_checks, line_checks}
 use Rattle.planfile.specs.Fault.{nothing, by, by_field, first_blame}
 use Rattle.planfile.specs.Laws.{plan_text, claims_onto, SoundPlan}
 use Rattle.planfile.specs.Reading.{FileRead}
@@ -27,7 +26,7 @@ entry_with number priority suspension suspensions deadline lock c t = record {
     sections = lock ∷ 0 ∷ 0 ∷ 0 ∷ 0 ∷ 0 ∷ 0 ∷ 0 ∷ [];
   };
   delay = 0;
-  jobs = Every c t;
+  jobs = Left (record { job = c; period = t });
 }
 
 -- meters, a card reader and a car

@@ -6,15 +6,14 @@ use Rattle.analysis.specs.Ranks.{Claim}
 use Rattle.demand.specs.Refusals.{first, slowed_checks}
 use Rattle.table.specs.Account.{AllInTime, hold_checks}
 use Rattle.demand.specs.declared.speed.Factor.{Factor}
-use Rattle.planfile.specs.declared.entry.Entry.{Entry}
-use Rattle.planfile.specs.declared.entry.Jobs.{Jobs}
-use Rattle.planfile.specs.declared.entry.Jobs.TheVariants.{Every, Heavy}
+use Rattle.either.specs.declared.Either.TheVariants.{Left, Right}
 use Rattle.planfile.specs.declared.fault.Fault.{Fault}
-use Rattle.planfile.specs.Fault.{Blame, nothing, at_line, first_blame, blame}
+use Rattle.planfile.specs.declared.fault.Blame.{Blame}
+use Rattle.planfile.specs.Fault.{nothing, at_line, first_blame, blame}
 use Rattle.planfile.specs.Text.{tab, newline, lines, fields}
-use Rattle.planfile.specs.Checks.{clock_checks, clock_of, kind_checks, claim_of}
+use Rattle.planfile.specs.Checks.{Jobs, Entry, clock_checks, clock_of, kind_checks, claim_of}
 use Rattle.planfile.specs.Reading.{taking, claim_in, clock_fields, file_checks, RowTaken, RowRefused, FileRead}
-use Rattle.planfile.specs.Report.{number_field, report, WrittenAt}
+use Rattle.planfile.specs.Report.{number_fields, report, WrittenAt}
 
 -- the row lines of a file: all lines but the first
 abbrev pub row_lines : List ℕ → List (List ℕ)
@@ -76,15 +75,10 @@ abbrev pub OneAnswer : List ℕ → ℕ → Result ℕ Fault → Type 0
 OneAnswer text room r =
     (s : Result (List Claim) Blame) → FileRead text room s → MatchResult r (λ _. s ≡ Ok (rows_onto (factor_of text) [] (row_lines text))) (λ f. s ≡ Err (blame f))
 
--- numbers, each behind a tab
-abbrev pub number_fields : List ℕ → List ℕ
-number_fields [] = []
-number_fields (n ∷ ns) = number_field n ++ number_fields ns
-
 -- a kind's word, and its numbers
 abbrev pub jobs_text : Jobs → List ℕ
-jobs_text (Every c t) = tab ∷ (codes "every" ++ number_fields (c ∷ t ∷ []))
-jobs_text (Heavy c h m t) = tab ∷ (codes "heavy" ++ number_fields (c ∷ h ∷ m ∷ t ∷ []))
+jobs_text (Left k) = tab ∷ (codes "every" ++ number_fields (k.job ∷ k.period ∷ []))
+jobs_text (Right k) = tab ∷ (codes "heavy" ++ number_fields (k.job ∷ k.heavy ∷ k.among ∷ k.period ∷ []))
 
 -- the numbers of a row line that stand before its kind
 abbrev pub numbers_of : Entry → List ℕ
@@ -113,8 +107,8 @@ AllFit [] = Unit {0}
 AllFit (n ∷ ns) = (n ≤ 4_294_967_295) × AllFit ns
 
 abbrev pub jobs_numbers : Jobs → List ℕ
-jobs_numbers (Every c t) = c ∷ t ∷ []
-jobs_numbers (Heavy c h m t) = c ∷ h ∷ m ∷ t ∷ []
+jobs_numbers (Left k) = k.job ∷ k.period ∷ []
+jobs_numbers (Right k) = k.job ∷ k.heavy ∷ k.among ∷ k.period ∷ []
 
 -- an entry can be written: its numbers fit their fields, and it has a section length for each lock
 pub record Writable (e : Entry) : Type 0 where

@@ -3,7 +3,6 @@ pub mod Fault
 pub mod Checks
 pub mod Reading
 pub mod Report
-pub mod Spans
 pub mod Cut
 pub mod Steps
 pub mod Loading

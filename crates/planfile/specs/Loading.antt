@@ -5,7 +5,8 @@ use Rattle.analysis.specs.Judge.{InTime}
 use Rattle.analysis.specs.Ranks.{Claim}
 use Rattle.planfile.specs.declared.fault.Fault.{Fault}
 use Rattle.planfile.specs.declared.fault.Fault.TheVariants.{ReportMemory}
-use Rattle.planfile.specs.Fault.{Blame, blame}
+use Rattle.planfile.specs.declared.fault.Blame.{Blame}
+use Rattle.planfile.specs.Fault.{blame}
 use Rattle.planfile.specs.Reading.{FileRead}
 use Rattle.planfile.specs.Report.{report, refusal_line, WrittenAt, Wrote}
 

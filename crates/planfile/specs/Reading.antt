@@ -6,7 +6,8 @@ use Rattle.table.specs.declared.HoldRefusal.{HoldRefusal}
 use Rattle.table.specs.Account.{Account, Accepted, Refused}
 use Rattle.demand.specs.declared.speed.Factor.{Factor}
 use Rattle.planfile.specs.declared.fault.LineFault.TheVariants.{Hold}
-use Rattle.planfile.specs.Fault.{Blame, nothing, by, at_line, first_blame, line_blame}
+use Rattle.planfile.specs.declared.fault.Blame.{Blame}
+use Rattle.planfile.specs.Fault.{nothing, by, at_line, first_blame, line_blame}
 use Rattle.planfile.specs.Text.{lines, fields, ended}
 use Rattle.planfile.specs.Checks.{clock_checks, clock_of, line_checks, entry_of, claim_of}
 

@@ -3,20 +3,25 @@ use Rattle.std.specs.Prelude.{◌≡◌, ℕ, ◌+◌, ◌<◌, ◌≤◌, List,
 use Rattle.analysis.specs.declared.Answer.{Answer}
 use Rattle.planfile.specs.declared.fault.Fault.{Fault}
 use Rattle.planfile.specs.declared.fault.Fault.TheVariants.{ReportMemory}
-use Rattle.planfile.specs.Fault.{Blame}
+use Rattle.planfile.specs.declared.fault.Blame.{Blame}
 use Rattle.planfile.specs.Text.{tab, newline}
 
 -- a tab, and the digits of a number without leading zeros
 abbrev pub number_field : ℕ → List ℕ
 number_field n = tab ∷ decimal n
 
--- a line of a word and four numbers
-abbrev pub line_of : List ℕ → ℕ → ℕ → ℕ → ℕ → List ℕ
-line_of word a b c d = word ++ (number_field a ++ (number_field b ++ (number_field c ++ (number_field d ++ newline ∷ []))))
+-- numbers, each behind a tab
+abbrev pub number_fields : List ℕ → List ℕ
+number_fields [] = []
+number_fields (n ∷ ns) = number_field n ++ number_fields ns
+
+-- a line of a word and numbers
+abbrev pub line_of : List ℕ → List ℕ → List ℕ
+line_of word ns = word ++ (number_fields ns ++ newline ∷ [])
 
 -- the line of a row: its number, its bound, its vector, its blocking
 abbrev pub report_line : Answer → List ℕ
-report_line a = line_of (codes "row") a.number a.bound a.vector a.blocking
+report_line a = line_of (codes "row") (a.number ∷ a.bound ∷ a.vector ∷ a.blocking ∷ [])
 
 -- the lines of all rows, as they come
 abbrev pub report : List Answer → List ℕ
@@ -25,7 +30,7 @@ report (a ∷ rest) = report_line a ++ report rest
 
 -- the line of a refusal: line, field, number, late row
 abbrev pub refusal_line : Blame → List ℕ
-refusal_line b = line_of (codes "refused") b.line b.field b.number b.late
+refusal_line b = line_of (codes "refused") (b.line ∷ b.field ∷ b.number ∷ b.late ∷ [])
 
 -- memory after a text was written at a place of it: what stood before and behind is as it was
 abbrev pub WrittenAt : List ℕ → ℕ → List ℕ → List ℕ → Type 0

@@ -1,58 +1,49 @@
 -- What the reader has taken of a line, byte by byte. Assumes nothing.
-use Rattle.std.specs.Prelude.{◌≡◌, ℕ, ◌+◌, ◌<◌, ◌≤◌, ◌≢◌, List, [], ◌∷◌, ◌++◌, length, drop, slice_index_or}
+use Rattle.std.specs.Prelude.{◌≡◌, ℕ, ◌+◌, ◌≤◌, List, [], ◌∷◌, ◌++◌, length, map, take, drop}
 use Rattle.std.specs.List.{between}
 use Rattle.planfile.specs.declared.reader.Reader.{Reader}
-use Rattle.planfile.specs.declared.reader.Span.{Span}
 use Rattle.planfile.specs.declared.reader.State.{State}
 use Rattle.planfile.specs.declared.reader.State.TheVariants.{Field, Ended}
-use Rattle.planfile.specs.Spans.{no_span, spanned}
 use Rattle.planfile.specs.Text.{newline, parted_by, lines, fields}
 
--- a span was noted under this index, if that is below twenty; the other spans, the text and the position are as they were
-pub record Noted (before : Reader) (index : ℕ) (span : Span) (after : Reader) : Type 0 where
+-- the fields that a reader keeps of the line at hand
+abbrev pub kept_fields : Reader → List (List ℕ)
+kept_fields r = map (λ f. f.now) r.kept.items
+
+-- a field was kept, if it is one of the first twenty; the text and the state are as they were
+pub record Kept (before : Reader) (field : List ℕ) (after : Reader) : Type 0 where
   pub text : after.text.now ≡ before.text.now
-  pub position : after.position ≡ before.position
-  pub here : index < 20 → slice_index_or after.spans index no_span ≡ span
-  pub others : (k : ℕ) → k < 20 → k ≢ index → slice_index_or after.spans k no_span ≡ slice_index_or before.spans k no_span
+  pub state : after.state ≡ before.state
+  pub fields : kept_fields after ≡ take 20 (kept_fields before ++ field ∷ [])
 
--- the reader may take the byte at this place: if it is in a field, that began no later, and at a place not before its index
-abbrev pub Ready : State → ℕ → Type 0
-Ready (Field index start) at = (index ≤ start) × (start ≤ at)
-Ready (Ended count) at = Unit {0}
-
--- Of a line that began at s, the bytes before `at` are taken. No newline is among them. They are cut into the fields that were noted, and the
--- one that began at this start.
-pub record InField (text : List ℕ) (s at : ℕ) (spans : List Span) (index start : ℕ) : Type 0 where
-  pub from : s ≤ start
+-- Of the line that a text begins with, the bytes before `at` are taken. No newline is among them. They are cut into the fields before this index, of
+-- which the first twenty are kept, and the one that began at this start.
+pub record InField (text : List ℕ) (at : ℕ) (kept : List (List ℕ)) (index start : ℕ) : Type 0 where
   pub begun : start ≤ at
   pub low : index ≤ start
-  pub one_line : parted_by newline (between s at text) ≡ between s at text ∷ []
-  pub noted : List (List ℕ)
-  pub cut : fields (between s at text) ≡ noted ++ between start at text ∷ []
-  pub size : length noted ≡ index
-  pub texts : (k : ℕ) → k < 20 → k < index → spanned text (slice_index_or spans k no_span) ≡ slice_index_or noted k []
+  pub one_line : parted_by newline (take at text) ≡ take at text ∷ []
+  pub before : List (List ℕ)
+  pub cut : fields (take at text) ≡ before ++ between start at text ∷ []
+  pub size : length before ≡ index
+  pub first_twenty : kept ≡ take 20 before
 
--- The line that began at s has ended just before `at`, and has so many fields.
-pub record Behind (text : List ℕ) (s at : ℕ) (spans : List Span) (count : ℕ) : Type 0 where
-  pub bytes : List ℕ
-  pub first : lines (drop s text) ≡ bytes ∷ lines (drop at text)
-  pub size : count ≡ length (fields bytes)
-  pub some : 0 < count
-  pub texts : (k : ℕ) → k < 20 → k < count → spanned text (slice_index_or spans k no_span) ≡ slice_index_or (fields bytes) k []
+-- The first line of a text is ended by the newline at this place. It has so many fields, of which the first twenty are kept.
+pub record Behind (text : List ℕ) (at : ℕ) (kept : List (List ℕ)) (count : ℕ) : Type 0 where
+  pub first : lines text ≡ take at text ∷ lines (drop (at + 1) text)
+  pub size : count ≡ length (fields (take at text))
+  pub first_twenty : kept ≡ take 20 (fields (take at text))
 
--- the reader is in a field of the line that began at s
-abbrev pub Taking : List ℕ → ℕ → ℕ → List Span → State → Type 0
-Taking text s at spans (Field index start) = InField text s at spans index start
-Taking text s at spans (Ended count) = ⊥
+-- the reader is in a field of the first line of a text
+abbrev pub Taking : List ℕ → ℕ → List (List ℕ) → State → Type 0
+Taking text at kept (Field index start) = InField text at kept index start
+Taking text at kept (Ended count) = ⊥
 
--- the reader is in a field of the line that began at s, or just behind that line
-abbrev pub Taken : List ℕ → ℕ → ℕ → List Span → State → Type 0
-Taken text s at spans (Field index start) = InField text s at spans index start
-Taken text s at spans (Ended count) = Behind text s at spans count
+-- the reader took the byte at this place, and is in a field of the first line, or behind that line
+abbrev pub Taken : List ℕ → ℕ → List (List ℕ) → State → Type 0
+Taken text at kept (Field index start) = InField text (at + 1) kept index start
+Taken text at kept (Ended count) = Behind text at kept count
 
--- the byte at this place was taken, wherever the line began
+-- the byte at this place was taken
 pub record Stepped (before : Reader) (at : ℕ) (after : Reader) : Type 0 where
   pub text : after.text.now ≡ before.text.now
-  pub position : after.position ≡ before.position
-  pub taken : (s : ℕ) → Taking before.text.now s at before.spans before.state
-      → Taken before.text.now s (at + 1) after.spans after.state
+  pub taken : Taken before.text.now at (kept_fields after) after.state

@@ -1,6 +1,7 @@
 // What is wrong with a plan file, by layers: a field, a line, the file.
 ghost use Rattle.std.specs.Prelude.{◌≡◌};
-ghost use Rattle.planfile.specs.Fault.{blame, line_blame};
+ghost use Rattle.table.specs.Account.{hold_late};
+ghost use Rattle.planfile.specs.Fault.{by, blame, line_blame};
 ghost use Rattle.planfile.specs.declared.fault.LineFault.TheVariants.{Kind as OfKind, Hold as OfHold};
 
 use demand::KindRefusal;
@@ -35,6 +36,16 @@ pub enum Fault {
     Line(u32, LineFault),
 }
 
+// What a fault says: the number of the check that applies, the line and the field that are to blame, and the row that would be late. Each counts from 1,
+// and is 0 where there is none.
+#[derive(Clone, Copy)]
+pub(crate) struct Blame {
+    number: u32,
+    line: u32,
+    field: u32,
+    late: u32,
+}
+
 impl From<KindRefusal> for LineFault {
     ghost from_gives = { λ e r. r ≡ OfKind e };
 
@@ -51,78 +62,84 @@ impl From<HoldRefusal> for LineFault {
     }
 }
 
+// A check that names nothing but its number.
+fn by(number: u32) -> Blame
+    ensures { result ≡ by number }
+{
+    Blame {
+        number,
+        line: 0,
+        field: 0,
+        late: 0,
+    }
+}
+
+// The row that would be late, and 0 where lateness is not why a row is not taken.
+fn late_row(refusal: HoldRefusal) -> u32
+    ensures { result ≡ hold_late refusal }
+{
+    match refusal {
+        HoldRefusal::Late(number) => number,
+        _ => 0,
+    }
+}
+
 impl LineFault {
-    fn number(self) -> u32
-        ensures { result ≡ (line_blame self).number }
+    fn blame(self) -> Blame
+        ensures { result ≡ line_blame self }
     {
         match self {
-            LineFault::Word(_) => 17,
-            LineFault::Count => 15,
-            LineFault::Number(_) => 16,
-            LineFault::Kind(refusal) => refusal.number(),
-            LineFault::Hold(refusal) => refusal.number(),
-        }
-    }
-
-    fn field(self) -> u32
-        ensures { result ≡ (line_blame self).field }
-    {
-        match self {
-            LineFault::Word(field) => field,
-            LineFault::Number(field) => field,
-            _ => 0,
-        }
-    }
-
-    fn late(self) -> u32
-        ensures { result ≡ (line_blame self).late }
-    {
-        match self {
-            LineFault::Hold(HoldRefusal::Late(number)) => number,
-            _ => 0,
+            LineFault::Word(field) => Blame { field, ..by(17) },
+            LineFault::Count => by(15),
+            LineFault::Number(field) => Blame { field, ..by(16) },
+            LineFault::Kind(refusal) => by(refusal.number()),
+            LineFault::Hold(refusal) => Blame {
+                late: late_row(refusal),
+                ..by(refusal.number())
+            },
         }
     }
 }
 
 impl Fault {
+    fn blame(self) -> Blame
+        ensures { result ≡ blame self }
+    {
+        match self {
+            Fault::ReportMemory => by(19),
+            Fault::File => by(18),
+            Fault::Line(line, fault) => Blame {
+                line,
+                ..fault.blame()
+            },
+        }
+    }
+
     // The number of the check that applies.
     pub fn number(self) -> u32
         ensures { result ≡ (blame self).number }
     {
-        match self {
-            Fault::ReportMemory => 19,
-            Fault::File => 18,
-            Fault::Line(_, fault) => fault.number(),
-        }
+        self.blame().number
     }
 
     // The line that is to blame, from 1; 0 where none is.
     pub fn line(self) -> u32
         ensures { result ≡ (blame self).line }
     {
-        match self {
-            Fault::Line(line, _) => line,
-            _ => 0,
-        }
+        self.blame().line
     }
 
     // The field that is to blame, from 1; 0 where none is.
     pub fn field(self) -> u32
         ensures { result ≡ (blame self).field }
     {
-        match self {
-            Fault::Line(_, fault) => fault.field(),
-            _ => 0,
-        }
+        self.blame().field
     }
 
     // The number of the row that would be late; 0 where lateness is not the fault.
     pub fn late(self) -> u32
         ensures { result ≡ (blame self).late }
     {
-        match self {
-            Fault::Line(_, fault) => fault.late(),
-            _ => 0,
-        }
+        self.blame().late
     }
 }

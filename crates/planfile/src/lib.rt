@@ -4,7 +4,6 @@
 ghost use Rattle.std.specs.Prelude.{◌≡◌, true};
 ghost use Rattle.planfile.specs.Figures.{PlanFigures};
 
-mod entry;
 mod fault;
 mod loading;
 mod number;

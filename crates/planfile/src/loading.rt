@@ -2,7 +2,6 @@
 ghost use Rattle.std.specs.Prelude.{◌≡◌, ◌≤◌, true, List, [], length, IfOk, Ok, Err, MatchResult};
 ghost use Rattle.analysis.specs.Ranks.{Claim};
 ghost use Rattle.table.specs.Agreement.{AgreesWith};
-ghost use Rattle.planfile.specs.declared.fault.Fault.TheVariants.{Line};
 ghost use Rattle.planfile.specs.Text.{ended};
 ghost use Rattle.planfile.specs.Fault.{blame, nothing, first_blame};
 ghost use Rattle.planfile.specs.Checks.{row_demand};
@@ -10,22 +9,11 @@ ghost use Rattle.planfile.specs.Reading.{taking, file_checks, LinesRead};
 ghost use Rattle.planfile.specs.Loading.{Loaded, AnsweredText};
 ghost use Rattle.planfile.specs.Laws.{InFileOrder, OneAnswer, RoundTrip};
 
-use super::entry::RowKind;
 use super::reader::Reader;
-use super::row::{read_clock, take_row};
+use super::row::{RowKind, read_clock, take_row};
 use super::writing::{write_refusal, write_report};
-use super::{Fault, LONGEST_FILE, LineFault, REPORT_MEMORY};
+use super::{Fault, LONGEST_FILE, REPORT_MEMORY};
 use table::Table;
-
-// What a line answers, with the number of the line where it is a fault.
-fn at_line<T>(line: u32, answer: Result<T, LineFault>) -> Result<T, Fault>
-    ensures { MatchResult answer (λ x. result ≡ Ok x) (λ f. result ≡ Err (Line line f)) }
-{
-    match answer {
-        Ok(value) => Ok(value),
-        Err(fault) => Err(Fault::Line(line, fault)),
-    }
-}
 
 // Checks what can be said before a line is read.
 fn check_file(file: &[u8], room: usize) -> Result<(), Fault>
@@ -51,11 +39,11 @@ fn take_lines(file: &[u8], table: &mut Table<RowKind>) -> Result<(), Fault>
     ensures { MatchResult result (λ _. (rows : List Claim) × LinesRead file.now (Ok rows) × AgreesWith row_demand (taking rows) table.new) (λ f. LinesRead file.now (Err (blame f))) }
 {
     let mut reader = Reader::new(file);
-    let clock = at_line(1, read_clock(&reader.line()))?;
-    let mut line = 2;
-    while !reader.at_end() {
-        at_line(line, take_row(&reader.line(), clock, table))?;
-        line += 1;
+    let first = reader.next().unwrap();
+    let clock = read_clock(&first).map_err(|fault| Fault::Line(1, fault))?;
+    for (index, line) in reader.enumerate() {
+        let number = index as u32 + 2;
+        take_row(&line, clock, table).map_err(|fault| Fault::Line(number, fault))?;
     }
     Ok(())
 }
@@ -71,10 +59,8 @@ pub fn load(file: &[u8], report: &mut [u8]) -> Result<usize, Fault>
     let mut places = [None; 12];
     let mut table = Table::new(0, &mut places);
     take_lines(file, &mut table)?;
-    match table.answers() {
-        Ok(answers) => Ok(write_report(answers.rows(), report)),
-        Err(_) => unreachable(),
-    }
+    let answers = table.answers().unwrap();
+    Ok(write_report(answers.rows(), report))
 }
 
 // Writes the text that answers a plan file, which is its report or the line of its refusal, and answers the length of the text.
@@ -82,6 +68,7 @@ pub fn answer(file: &[u8], out: &mut [u8]) -> Result<usize, Fault>
     ensures text { AnsweredText file.now out.old result out.new }
     ensures within { IfOk result (λ n. n ≤ length out.old) }
 {
+    // A `match`, since `or_else` does not say that `out` stays as it is where its closure is not called.
     match load(file, out) {
         Ok(length) => Ok(length),
         Err(fault) => write_refusal(fault, out),

@@ -1,8 +1,18 @@
 // Numbers of a plan file: digits in base ten.
-ghost use Rattle.std.specs.Prelude.{◌≡◌, ℕ, ◌+◌, ◌-◌, ◌*◌, ◌^◌, ◌<◌, true, false, length, IfOk, Ok, decimal, MatchResult, slice_index};
-ghost use Rattle.planfile.specs.Text.{is_number, value};
+ghost use Rattle.std.specs.Prelude.{◌≡◌, ℕ, ◌+◌, ◌-◌, ◌*◌, ◌^◌, ◌<◌, ◌≤◌, ◌⊎◌, true, false, length, IfOk, Ok, decimal, MatchOption, MatchResult, slice_index};
+ghost use Rattle.planfile.specs.Text.{is_digit, is_number, value};
 
 use super::FieldFault;
+
+// The number with one more digit, if the byte is a digit and the number still fits.
+fn push_digit(number: u32, byte: u8) -> Option<u32>
+    ensures { MatchOption result ((is_digit byte ≡ false) ⊎ (2 ^ 32 ≤ number * 10 + (byte - 48))) (λ n. (is_digit byte ≡ true) × (n ≡ number * 10 + (byte - 48)) × (n < 2 ^ 32)) }
+{
+    if !byte.is_ascii_digit() {
+        return None;
+    }
+    number.checked_mul(10)?.checked_add(u32::from(byte - b'0'))
+}
 
 // The number that a field writes.
 pub fn read_number(field: &[u8]) -> Result<u32, FieldFault>
@@ -13,15 +23,8 @@ pub fn read_number(field: &[u8]) -> Result<u32, FieldFault>
     if field.is_empty() {
         return Err(FieldFault::NotNumber);
     }
-    let mut value = 0u64;
-    for byte in field {
-        if *byte < b'0' || b'9' < *byte {
-            return Err(FieldFault::NotNumber);
-        }
-        value = value * 10 + u64::from(*byte - b'0');
-        if u64::from(u32::MAX) < value {
-            return Err(FieldFault::NotNumber);
-        }
-    }
-    Ok(value as u32)
+    field
+        .iter()
+        .try_fold(0, |number, byte| push_digit(number, *byte))
+        .ok_or(FieldFault::NotNumber)
 }

@@ -1,42 +1,44 @@
 // Takes the bytes of a file in order, and cuts each line into its fields.
-ghost use Rattle.planfile.specs.Spans.{Within};
+use arrayvec::ArrayVec;
+use std::marker::Model;
 
 mod reading;
 
-// The most fields of a line whose places are noted.
+// The most fields of a line that are kept.
 const MOST_FIELDS: usize = 20;
 
-// A part of the file, from one place up to another.
-#[derive(Clone, Copy)]
-pub(crate) struct Span {
-    start: usize,
-    stop: usize,
-}
-
-// A line of the file: how many fields it has, and where the first twenty are.
-#[derive(Clone, Copy)]
+// A line of the file. It is seen as all its fields, of which the first twenty are kept, and the others counted.
+#[derive(Drop)]
 pub(crate) struct Line<'a> {
     text: &'a [u8],
-    spans: [Span; 20],
+    kept: ArrayVec<&'a [u8], MOST_FIELDS>,
     count: usize,
-    ghost within: { Within text.now spans },
 }
 
-// Where the reader stands.
+impl<'a> Model for Line<'a> {
+    ghost use Rattle.std.specs.Prelude.{◌≡◌, ℕ, List, length, take, map};
+    ghost use Rattle.planfile.specs.Text.{fields};
+
+    ghost Value = { List (List ℕ) };
+
+    ghost view = { λ l. fields l.text.now };
+
+    ghost invariant = { λ l. (l.count ≡ length (fields l.text.now)) × (map (λ f. f.now) l.kept.items ≡ take 20 (fields l.text.now)) };
+}
+
+// Where the reader stands in the line at hand.
 #[derive(Clone, Copy)]
 enum State {
     // in the field of this index, which began at this place
     Field(usize, usize),
-    // behind a line of so many fields
+    // behind so many fields
     Ended(usize),
 }
 
-// A reader of the lines of a file.
+// A reader of the lines of a file: what is left of the file, and the first twenty fields of the line at hand.
 #[derive(Drop)]
 pub(crate) struct Reader<'a> {
     text: &'a [u8],
-    position: usize,
     state: State,
-    spans: [Span; 20],
-    ghost within: { Within text.now spans },
+    kept: ArrayVec<&'a [u8], MOST_FIELDS>,
 }

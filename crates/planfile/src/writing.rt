@@ -1,89 +1,78 @@
 // The texts that are written into lent memory.
-ghost use Rattle.std.specs.Prelude.{◌+◌, ◌<◌, ◌≤◌, [], ◌∷◌, length, decimal, slice_index};
+ghost use Rattle.std.specs.Prelude.{◌≡◌, ◌+◌, ◌<◌, ◌≤◌, ◌++◌, length};
+ghost use Rattle.arrayvec.specs.ArrayString.{array_string_len};
 ghost use Rattle.planfile.specs.Fault.{blame};
 ghost use Rattle.planfile.specs.Report.{number_field, line_of, report_line, report, Wrote, RefusalWritten};
 
 use super::{Fault, REPORT_MEMORY};
 use analysis::Answer;
+use arrayvec::ArrayString;
+use itoa::Buffer;
 
-// Writes a byte at a place, and answers the place behind it.
-fn write_byte(byte: u8, out: &mut [u8], at: usize) -> usize
-    requires { at + 1 ≤ length out.old }
-    ensures { Wrote out.old at (byte ∷ []) result out.new }
+// A text that is composed before it is written. Every report fits.
+type Text = ArrayString<REPORT_MEMORY>;
+
+// Appends a tab and a number.
+fn push_number(text: &mut Text, number: u64)
+    requires { array_string_len text.old + length (number_field number) ≤ 512 }
+    ensures { text.new.bytes ≡ text.old.bytes ++ number_field number }
 {
-    out[at] = byte;
-    at + 1
+    text.push_str("\t");
+    text.push_str(Buffer::new().format(number));
 }
 
-// Writes bytes.
-fn write_bytes(bytes: &[u8], out: &mut [u8], at: usize) -> usize
-    requires { at + length bytes.now ≤ length out.old }
-    ensures { Wrote out.old at bytes.now result out.new }
+// Appends a line of a word and numbers.
+fn push_line(text: &mut Text, word: &str, numbers: &[u64])
+    requires { array_string_len text.old + length (line_of word.now numbers.now) ≤ 512 }
+    ensures { text.new.bytes ≡ text.old.bytes ++ line_of word.now numbers.now }
 {
-    let mut next = at;
-    for byte in bytes {
-        next = write_byte(*byte, out, next);
+    text.push_str(word);
+    for number in numbers {
+        push_number(text, *number);
     }
-    next
+    text.push_str("\n");
 }
 
-// Writes the digits of a number, without leading zeros.
-fn write_number(number: u64, out: &mut [u8], at: usize) -> usize
-    requires { at + length (decimal number) ≤ length out.old }
-    ensures { Wrote out.old at (decimal number) result out.new }
-{
-    let last = b'0' + (number % 10) as u8;
-    if number < 10 {
-        return write_byte(last, out, at);
-    }
-    let next = write_number(number / 10, out, at);
-    write_byte(last, out, next)
-}
-
-// Writes a tab and a number.
-fn write_field(number: u64, out: &mut [u8], at: usize) -> usize
-    requires { at + length (number_field number) ≤ length out.old }
-    ensures { Wrote out.old at (number_field number) result out.new }
-{
-    let next = write_byte(b'\t', out, at);
-    write_number(number, out, next)
-}
-
-// Writes a line of a word and four numbers.
-fn write_line(word: &[u8], numbers: [u64; 4], out: &mut [u8], at: usize) -> usize
-    requires { at + length (line_of word.now (slice_index numbers 0) (slice_index numbers 1) (slice_index numbers 2) (slice_index numbers 3)) ≤ length out.old }
-    ensures { Wrote out.old at (line_of word.now (slice_index numbers 0) (slice_index numbers 1) (slice_index numbers 2) (slice_index numbers 3)) result out.new }
-{
-    let [a, b, c, d] = numbers;
-    let next = write_bytes(word, out, at);
-    let next = write_field(a, out, next);
-    let next = write_field(b, out, next);
-    let next = write_field(c, out, next);
-    let next = write_field(d, out, next);
-    write_byte(b'\n', out, next)
-}
-
-// Writes the line of a row.
-fn write_row(answer: &Answer, out: &mut [u8], at: usize) -> usize
-    requires { at + length (report_line answer.now) ≤ length out.old }
-    ensures { Wrote out.old at (report_line answer.now) result out.new }
+// Appends the line of a row.
+fn push_row(text: &mut Text, answer: &Answer)
+    requires { array_string_len text.old + length (report_line answer.now) ≤ 512 }
+    ensures { text.new.bytes ≡ text.old.bytes ++ report_line answer.now }
 {
     let number = u64::from(answer.number);
     let bound = u64::from(answer.bound);
     let vector = u64::from(answer.vector);
-    write_line(b"row", [number, bound, vector, answer.blocking], out, at)
+    push_line(text, "row", &[number, bound, vector, answer.blocking]);
+}
+
+// The report of these answers.
+fn report_text(answers: &[Answer]) -> Text
+    requires { length (report answers.now) ≤ 512 }
+    ensures { result.bytes ≡ report answers.now }
+{
+    let mut text = Text::new();
+    for answer in answers {
+        push_row(&mut text, answer);
+    }
+    text
+}
+
+// Writes a text at the start of memory, and answers its length.
+fn write_text(text: &Text, out: &mut [u8]) -> usize
+    requires { array_string_len text.now ≤ length out.old }
+    ensures { Wrote out.old 0 text.now.bytes result out.new }
+{
+    let bytes = text.as_str().as_bytes();
+    out[..bytes.len()].copy_from_slice(bytes);
+    bytes.len()
 }
 
 // Writes the report of these answers at the start of memory, and answers its length.
 pub(crate) fn write_report(answers: &[Answer], out: &mut [u8]) -> usize
-    requires { length (report answers.now) ≤ length out.old }
+    requires fits { length (report answers.now) ≤ 512 }
+    requires room { 512 ≤ length out.old }
     ensures { Wrote out.old 0 (report answers.now) result out.new }
 {
-    let mut next = 0;
-    for answer in answers {
-        next = write_row(answer, out, next);
-    }
-    next
+    write_text(&report_text(answers), out)
 }
 
 // Writes the line of a refusal at the start of memory, and answers its length.
@@ -97,5 +86,7 @@ pub fn write_refusal(fault: Fault, out: &mut [u8]) -> Result<usize, Fault>
     let field = u64::from(fault.field());
     let number = u64::from(fault.number());
     let late = u64::from(fault.late());
-    Ok(write_line(b"refused", [line, field, number, late], out, 0))
+    let mut text = Text::new();
+    push_line(&mut text, "refused", &[line, field, number, late]);
+    Ok(write_text(&text, out))
 }

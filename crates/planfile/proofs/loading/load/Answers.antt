@@ -1,4 +1,5 @@
-use Rattle.std.proofs.Common.{◌≡◌, ℕ, ◌≢◌, List, length, Ok, Err, Result, sym, refl, ap, ◌∙◌, subst, inl, inr, zero-add, arith}
+use Rattle.std.proofs.Common.{◌≡◌, ℕ, ◌≢◌, List, length, Ok, Err, Result, sym, refl, ap, ◌∙◌, subst, inl, inr, zero-add}
+use Rattle.std.specs.Result.{is_ok}
 use Rattle.std.proofs.lemmas.Result.{err_from_is_err_and}
 use Rattle.analysis.specs.declared.Answer.{Answer}
 use Rattle.analysis.specs.declared.answers.Answers.{Answers}
@@ -6,7 +7,8 @@ use Rattle.analysis.specs.declared.judgement.JudgeRefusal.{JudgeRefusal}
 use Rattle.analysis.specs.Judge.{Answered, answers_of}
 use Rattle.analysis.specs.Ranks.{Claim, ranked, loads}
 use Rattle.planfile.specs.declared.fault.Fault.{Fault}
-use Rattle.planfile.specs.Fault.{Blame, first_blame, blame}
+use Rattle.planfile.specs.declared.fault.Blame.{Blame}
+use Rattle.planfile.specs.Fault.{first_blame, blame}
 use Rattle.planfile.specs.Reading.{taking, file_checks, FileRead, LinesRead}
 use Rattle.planfile.specs.Loading.{Loaded}
 use Rattle.planfile.specs.Report.{report}
@@ -21,17 +23,11 @@ use Rattle.planfile.proofs.loading.load.Goals as goal
 by_file : (text : List ℕ) (room : ℕ) (f : Fault) → first_blame (file_checks text room) ≡ blame f → FileRead text room (Err (blame f))
 by_file text room f e = inl (subst (λ (b : Blame). b.number ≢ 0) (sym e) (blame_numbered f), ap Err (sym e))
 
--- answers that were given are those of the rows
-given : (rows : List Claim) (r : Result Answers JudgeRefusal) (all : Answers) → ((listed : Answers) × (r ≡ Ok listed) × Answered (loads (ranked rows)) (answers_of listed)) → r ≡ Ok all → Answered (loads (ranked rows)) (answers_of all)
-given rows r all p e =
-    let same : p.0 ≡ all = cc in
-    subst (λ (x : Answers). Answered (loads (ranked rows)) (answers_of x)) same p.2
-
--- and no refusal
-not_refused : {A : Type 0} (P : A → Type 0) (r : Result A JudgeRefusal) (e : JudgeRefusal) → ((x : A) × (r ≡ Ok x) × P x) → r ≡ Err e → ⊥
-not_refused P r e p f =
-    let no : ◌≡◌ {A = ℕ} 0 1 = cc in
-    omega arith
+-- the rows that are listed of the answers that the table gave are those of the rows of the file
+answered : (rows : List Claim) (r : Result Answers JudgeRefusal) (all : Answers) (listed : List Answer) → ((given : Answers) × (r ≡ Ok given) × Answered (loads (ranked rows)) (answers_of given)) → r ≡ Ok all → listed ≡ answers_of all → Answered (loads (ranked rows)) listed
+answered rows r all listed p e f =
+    let same : listed ≡ answers_of p.0 = cc in
+    rw same p.2
 
 pub returns-in_err-check_file : goal.returns-in_err-check_file
 returns-in_err-check_file c =
@@ -49,17 +45,20 @@ returns-in_err-take_lines c =
     let loaded : Loaded text before c.from_residual-in_err-take_lines.result before = rw p.1 (inr (c.in_ok-check_file.ensures, subst (λ (f : Fault). LinesRead text (Err (blame f))) (sym p.2) c.in_err-take_lines.ensures), refl) in
     record { loaded = loaded; in_file_order = in_file_order text before _ before loaded; one_answer = one_answer text before _ before loaded; round_trip = round_trip text before _ before loaded }
 
+pub unwrap-answers-requires : goal.unwrap-answers-requires
+unwrap-answers-requires c =
+    let taken = c.in_ok-take_lines.ensures in
+    let given = c.answers.ensures (taking taken.0) taken.2 in
+    ap is_ok given.1
+
 pub write_report-requires : goal.write_report-requires
 write_report-requires c =
     let text = c.args.file.now in
     let taken = c.in_ok-take_lines.ensures in
-    let answered = given taken.0 c.answers.result c.in-Ok.answers (c.answers.ensures (taking taken.0) taken.2) c.in-Ok.is in
-    omega (arith, fits text taken.0 (answers_of c.in-Ok.answers) taken.1 answered, ap (λ (x : List Answer). length (report x)) c.rows.ensures, long_enough text (length c.args.report.now) c.in_ok-check_file.ensures)
-
-pub unreachable-requires : goal.unreachable-requires
-unreachable-requires c =
-    let taken = c.in_ok-take_lines.ensures in
-    not_refused _ c.answers.result _ (c.answers.ensures (taking taken.0) taken.2) c.in-Err.is
+    record {
+      fits = fits text taken.0 c.rows.result.now taken.1 (answered taken.0 c.answers.result c.unwrap-answers.result c.rows.result.now (c.answers.ensures (taking taken.0) taken.2) c.unwrap-answers.ensures c.rows.ensures);
+      room = long_enough text (length c.args.report.now) c.in_ok-check_file.ensures;
+    }
 
 pub returns : goal.returns
 returns c =
@@ -67,13 +66,12 @@ returns c =
     let before = c.args.report.now in
     let after = c.write_report.new.out in
     let taken = c.in_ok-take_lines.ensures in
-    let answered = subst (Answered (loads (ranked taken.0))) (sym c.rows.ensures) (given taken.0 c.answers.result c.in-Ok.answers (c.answers.ensures (taking taken.0) taken.2) c.in-Ok.is) in
     let loaded : Loaded text before (Ok c.write_report.result) after =
     record {
       rows = taken.0;
       answers = c.rows.result.now;
       read = inr (c.in_ok-check_file.ensures, taken.1);
-      in_time = all_in_time text taken.0 c.rows.result.now taken.1 taken.2.sound.lawful answered;
+      in_time = all_in_time text taken.0 c.rows.result.now taken.1 taken.2.sound.lawful (answered taken.0 c.answers.result c.unwrap-answers.result c.rows.result.now (c.answers.ensures (taking taken.0) taken.2) c.unwrap-answers.ensures c.rows.ensures);
       size = c.write_report.ensures.next ∙ zero-add (length (report c.rows.result.now));
       written = c.write_report.ensures.memory;
     } in

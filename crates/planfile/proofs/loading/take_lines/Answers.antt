@@ -1,59 +1,98 @@
-use Rattle.std.proofs.Common.{◌≡◌, ℕ, ◌≤◌, List, ◌∷◌, length, drop, Ok, Err, sym, ap, ◌∙◌, subst, arith, leb-true}
+-- The first line is the clock line, and each turn of the loop takes the next row line.
+use Rattle.std.proofs.Common.{◌≡◌, ◌+◌, ◌<◌, [], ◌∷◌, map, length, get_or, Ok, Err, sym, ap, ◌∙◌, subst, inl, arith, rules}
 use Rattle.std.proofs.lemmas.Result.{err_from_is_err_and, MatchResult-at_ok, MatchResult-at_err}
-use Rattle.planfile.specs.declared.fault.Fault.{Fault}
-use Rattle.planfile.specs.declared.reader.Line.{Line}
-use Rattle.planfile.specs.declared.reader.Reader.{Reader}
-use Rattle.planfile.specs.Cut.{NextLine}
+use Rattle.std.proofs.lemmas.Iterator.Consumers.{YieldsList-turn, YieldsList-end}
+use Rattle.std.proofs.lemmas.List.{length-map, length_push}
+use Rattle.std.proofs.lemmas.List.FromFn.{length-enumerate_from}
+use Rattle.planfile.specs.Cut.{lines_left}
+use Rattle.planfile.specs.declared.fault.Fault.TheVariants.{Line}
 use Rattle.planfile.specs.Fault.{blame, at_line, line_blame}
+use Rattle.planfile.specs.Laws.{row_lines}
 use Rattle.planfile.specs.Reading.{claim_in, LinesRead}
-use Rattle.planfile.specs.Text.{lines, fields, ended}
-use Rattle.planfile.proofs.LinesRead.{some_byte, row_refused, row_taken, no_lines, fault_of_line, value_of_line}
+use Rattle.planfile.specs.Text.{lines, fields, tab}
+use Rattle.planfile.proofs.Parted.{some_part, ended_line}
+use Rattle.planfile.proofs.LinesRead.{first_line, some_first, few_rows, row_road, row_count, line_at, clock_taken, row_refused, row_taken, no_lines, value_of_line, fault_of_line}
 use Rattle.planfile.proofs.loading.take_lines.Goals as goal
+use Rattle.planfile.proofs.loading.take_lines.Goals.{In-Some}
 
--- the next line, by the bytes of the file
-next_of : (before : Reader) (line : Line) (after : Reader) (file : List ℕ) → before.text.now ≡ file → (next : NextLine before line after) → lines (drop before.position file) ≡ next.bytes ∷ lines (drop after.position file)
-next_of before line after file e next =
-    subst (λ (t : List ℕ). lines (drop before.position t) ≡ next.bytes ∷ lines (drop after.position t)) e next.first
+pub unwrap-first-requires : goal.unwrap-first-requires
+unwrap-first-requires c =
+    let lines_are = ap (λ text. map fields (lines text)) c.new-reader.ensures in
+    some_first lines_left c.new-reader.result c.next.new.self c.next.result c.next.ensures.steps
+    (omega (arith, ap length lines_are, length-map (lines c.args.file.now) fields, ended_line c.args.file.now c.requires.ended))
 
-pub line-requires : goal.line-requires
-line-requires c =
-    let text = c.new-reader.ensures.text in
-    let some = some_byte c.args.file.now c.requires.ended in
-    record { more = rw (text, c.new-reader.ensures.start) some; ended = ap ended text ∙ c.requires.ended }
+pub read_clock-requires : goal.read_clock-requires
+read_clock-requires c =
+    let first = first_line c.args.file.now c.new-reader.result c.next.new.self _ _ c.new-reader.ensures c.next.ensures.steps c.unwrap-first.ensures in
+    rw first.0 (some_part tab (get_or (lines c.args.file.now) 0 []))
 
-pub returns-in_err-at_line : goal.returns-in_err-at_line
-returns-in_err-at_line c =
-    let p = err_from_is_err_and c.from_residual-in_err-at_line.result c.from_residual-in_err-at_line.ensures.1 in
-    let e = fault_of_line c.take_row.result c.loop-reader.line c.at_line-in-loop-reader.result c.in_err-at_line.field-0.0 c.at_line-in-loop-reader.ensures c.in_err-at_line.was in
-    let inv = c.loop-reader.invariant in
-    let next = c.line-in-loop-reader.ensures in
-    let first = next_of c.loop-reader.reader c.line-in-loop-reader.result c.line-in-loop-reader.new.self c.args.file.now inv.0 next in
-    let refused = MatchResult-at_err _ _ e.0 e.1 (c.take_row.ensures (fields next.bytes) inv.3.0 next.cut inv.3.1) in
-    rw p.1
-    (subst (λ (f : Fault). LinesRead c.args.file.now (Err (blame f))) (sym (p.2 ∙ e.2))
-    (inv.3.2 (Err (at_line c.loop-reader.line (line_blame e.0)))
-    (row_refused c.in_ok-clock.clock c.loop-reader.line inv.3.0 _ next.bytes _ first (line_blame e.0) refused)))
+pub loop-index-init-derived : goal.loop-index-init-derived
+loop-index-init-derived c =
+    let from = c.enumerate-index-items.ensures in
+    ((tt, tt, inl (row_count c.args.file.now c.new-reader.result c.next.new.self _ _ c.new-reader.ensures c.next.ensures.steps c.unwrap-first.ensures _ _ from.source from.count c.into_iter-index-iterator.ensures.into_iter_gives c.requires.short)), tt)
 
-pub loop-reader-preserved : goal.loop-reader-preserved
-loop-reader-preserved c =
-    let inv = c.loop-reader.invariant in
-    let next = c.line-in-loop-reader.ensures in
-    let first = next_of c.loop-reader.reader c.line-in-loop-reader.result c.line-in-loop-reader.new.self c.args.file.now inv.0 next in
-    let e = value_of_line c.take_row.result c.loop-reader.line c.at_line-in-loop-reader.result _ c.at_line-in-loop-reader.ensures c.in_ok-at_line.was in
-    let taken = MatchResult-at_ok _ _ _ e (c.take_row.ensures (fields next.bytes) inv.3.0 next.cut inv.3.1) in
-    let forward = next.forward in (
-      next.text ∙ inv.0,
-      omega (arith, inv.1, next.forward),
-      omega (arith, next.inside, ap length inv.0),
-      (
-        claim_in c.in_ok-clock.clock (fields next.bytes) ∷ inv.3.0,
-        taken.1,
-        λ r more. inv.3.2 r (row_taken c.in_ok-clock.clock c.loop-reader.line inv.3.0 _ next.bytes _ first taken.0 r more),
-      ),
+pub loop-index-init : goal.loop-index-init
+loop-index-init c =
+    let first = first_line c.args.file.now c.new-reader.result c.next.new.self _ _ c.new-reader.ensures c.next.ensures.steps c.unwrap-first.ensures in
+    let read = rw (value_of_line c.read_clock.result c.map_err.result _ c.map_err.ensures.cases c.in_ok-clock.clock c.in_ok-clock.was, first.0) at c.read_clock.ensures in
+    ([], c.requires.empty, λ r more. clock_taken c.args.file.now c.in_ok-clock.clock r read.0 read.1 more)
+
+-- the row line at hand
+here : (c : In-Some) → (length c.loop-index.yielded < length (row_lines c.args.file.now)) × (c.in-Some.index ≡ length c.loop-index.yielded) × (c.in-Some.line ≡ fields (get_or (row_lines c.args.file.now) (length c.loop-index.yielded) []))
+here c =
+    let from = c.enumerate-index-items.ensures in
+    let road = row_road c.args.file.now c.new-reader.result c.next.new.self _ _ c.new-reader.ensures c.next.ensures.steps c.unwrap-first.ensures _ _ from.source from.count c.into_iter-index-iterator.ensures.into_iter_gives in
+    line_at (row_lines c.args.file.now) (length c.loop-index.yielded) c.in-Some.index c.in-Some.line
+    (YieldsList-turn road c.loop-index.yielded _ c.loop-index.yielded_by _ c.next-in-loop-index.new.self (c.in-Some.index, c.in-Some.line) c.in-Some.is c.next-in-loop-index.ensures.steps)
+
+pub overflow_cast-number : goal.overflow_cast-number
+overflow_cast-number c =
+    let h = here (goal.at.overflow_cast-number c).In-Some in
+    omega (arith, h.0, h.1, few_rows c.args.file.now)
+
+pub overflow_add-number : goal.overflow_add-number
+overflow_add-number c =
+    let h = here (goal.at.overflow_add-number c).In-Some in
+    omega (arith, h.0, h.1, few_rows c.args.file.now)
+
+pub take_row-requires : goal.take_row-requires
+take_row-requires c =
+    let h = here (goal.at.take_row-requires c).In-Some in
+    let inv = c.loop-index.invariant in
+    record { some = rw h.2 (some_part tab (get_or (row_lines c.args.file.now) (length c.loop-index.yielded) [])); agrees = (inv.0, inv.1) }
+
+pub loop-index-preserved : goal.loop-index-preserved
+loop-index-preserved c =
+    let h = here (goal.at.loop-index-preserved c).In-Some in
+    let inv = c.loop-index.invariant in
+    let k = length c.loop-index.yielded in
+    let ok = value_of_line c.take_row.result c.map_err-in-loop-index.result _ c.map_err-in-loop-index.ensures.cases c.in_ok-map_err.field-0 c.in_ok-map_err.was in
+    let taken = MatchResult-at_ok _ _ _ ok (c.take_row.ensures inv.0 inv.1) in
+    let more = length_push c.loop-index.yielded (c.in-Some.index, c.in-Some.line) in (
+      claim_in c.in_ok-clock.clock c.in-Some.line ∷ inv.0,
+      taken.1,
+      λ r rest. inv.2 r (row_taken c.in_ok-clock.clock (k + 2) inv.0 (row_lines c.args.file.now) k h.0 c.in-Some.line h.2 _ _ (omega (arith, more)) more taken.0 r rest),
     )
+
+pub returns-in_err-map_err : goal.returns-in_err-map_err
+returns-in_err-map_err c =
+    let p = err_from_is_err_and c.from_residual-in_err-map_err.result c.from_residual-in_err-map_err.ensures.1 in
+    let h = here (goal.at.returns-in_err-map_err c).In-Some in
+    let inv = c.loop-index.invariant in
+    let k = length c.loop-index.yielded in
+    let fault = fault_of_line c.take_row.result c.map_err-in-loop-index.result _ c.map_err-in-loop-index.ensures.cases (Line (c.in-Some.index + 2)) (λ e d t. search rules) c.in_err-map_err.field-0.0 c.in_err-map_err.was in
+    let refused = MatchResult-at_err _ _ fault.0 fault.1 (c.take_row.ensures inv.0 inv.1) in
+    let said = ap blame fault.2 ∙ ap (λ n. at_line (n + 2) (line_blame fault.0)) h.1 in
+    rw (p.1, p.2)
+    (subst (λ b. LinesRead c.args.file.now (Err b)) (sym said)
+    (inv.2 (Err (at_line (k + 2) (line_blame fault.0)))
+    (row_refused c.in_ok-clock.clock (k + 2) inv.0 (row_lines c.args.file.now) k h.0 c.in-Some.line h.2 (line_blame fault.0) refused)))
 
 pub returns : goal.returns
 returns c =
-    let inv = c.loop-reader.invariant in
-    let end : length c.args.file.now ≤ c.loop-reader.reader.position = omega (arith, leb-true (length c.loop-reader.reader.text.now) c.loop-reader.reader.position (sym c.loop-reader-test.ensures), ap length inv.0) in
-    (inv.3.0, inv.3.2 (Ok inv.3.0) (no_lines c.in_ok-clock.clock c.loop-reader.line inv.3.0 c.args.file.now c.loop-reader.reader.position end), inv.3.1)
+    let from = c.enumerate-index-items.ensures in
+    let road = row_road c.args.file.now c.new-reader.result c.next.new.self _ _ c.new-reader.ensures c.next.ensures.steps c.unwrap-first.ensures _ _ from.source from.count c.into_iter-index-iterator.ensures.into_iter_gives in
+    let end = YieldsList-end road c.loop-index.yielded _ c.loop-index.yielded_by _ c.next-in-loop-index.new.self c.in-None.is c.next-in-loop-index.ensures.steps in
+    let inv = c.loop-index.invariant in
+    let rows = row_lines c.args.file.now in
+    (inv.0, inv.2 (Ok inv.0) (no_lines c.in_ok-clock.clock _ inv.0 rows (length c.loop-index.yielded) (omega (arith, end.1, length-enumerate_from 0 (map fields rows), length-map rows fields))), inv.1)

@@ -1,29 +1,18 @@
-use Rattle.std.proofs.Common.{ℕ, List, [], ◌∷◌, get_or, sym, ap, ◌∙◌, arith}
+-- The numbers are read in two goes, and the first that is none is the leftmost.
+use Rattle.std.proofs.Common.{◌∙◌}
 use Rattle.std.proofs.lemmas.Result.{err_from_is_err_and}
-use Rattle.analysis.specs.declared.Row.{Row}
-use Rattle.planfile.specs.Fault.{line_blame}
+use Rattle.planfile.specs.Checks.{number_checks}
+use Rattle.planfile.proofs.Blames.{stopped, passed, numbered_numbers, fault_numbered}
 use Rattle.planfile.proofs.row.read_plain.Goals as goal
 
 pub returns-in_err-number : goal.returns-in_err-number
-returns-in_err-number c fs has long =
+returns-in_err-number c =
+    let fs = c.args.line.now in
     let p = err_from_is_err_and c.from_residual.result c.from_residual.ensures.1 in
-    rw p.1 (c.in_err-number.ensures fs has (omega arith) ∙ ap line_blame (sym p.2))
+    rw (p.1, p.2) (stopped (number_checks fs 2 6) (number_checks fs 8 8) _ (fault_numbered _) c.in_err-number.ensures)
 
--- a row and its delay, by the places of their numbers
-abbrev placed : List ℕ → Row × ℕ
-placed ns = (
-  record {
-    number = get_or ns 0 0;
-    priority = get_or ns 1 0;
-    suspension = get_or ns 2 0;
-    suspensions = get_or ns 3 0;
-    deadline = get_or ns 4 0;
-    sections = get_or ns 6 0 ∷ get_or ns 7 0 ∷ get_or ns 8 0 ∷ get_or ns 9 0 ∷ get_or ns 10 0 ∷ get_or ns 11 0 ∷ get_or ns 12 0 ∷ get_or ns 13 0 ∷ [];
-  },
-  get_or ns 5 0,
-)
-
-pub returns : goal.returns
-returns c fs has long =
-    let read = c.in_ok-number.ensures fs has (omega arith) in
-    (read.0, ap placed read.1)
+pub returns-in_err-read_numbers : goal.returns-in_err-read_numbers
+returns-in_err-read_numbers c =
+    let fs = c.args.line.now in
+    let p = err_from_is_err_and c.from_residual-in_err-read_numbers.result c.from_residual-in_err-read_numbers.ensures.1 in
+    rw (p.1, p.2) (passed (number_checks fs 2 6) (number_checks fs 8 8) (numbered_numbers fs 2 6) c.in_ok-number.ensures.0 ∙ c.in_err-read_numbers.ensures)

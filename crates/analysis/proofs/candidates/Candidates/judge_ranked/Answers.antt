@@ -2,7 +2,7 @@ use Rattle.std.proofs.Common.{◌≡◌, ℕ, ◌+◌, List, map, length, get_or
 use Rattle.std.proofs.lemmas.List.{take_rest}
 use Rattle.std.proofs.lemmas.Result.{err_from_is_err_and}
 use Rattle.analysis.specs.declared.Answer.{Answer}
-use Rattle.analysis.specs.declared.Higher.{Higher}
+use Rattle.analysis.specs.declared.higher.Higher.{Higher}
 use Rattle.analysis.specs.declared.judgement.JudgeRefusal.TheVariants.{Late}
 use Rattle.analysis.specs.declared.Rank.{Rank}
 use Rattle.analysis.specs.Candidates.{claim_of}
@@ -23,7 +23,7 @@ returns-in_err-answer g c =
     in
     let none : c.judge_rank.result ≡ None = grind arith in
     let why : c.in_err-answer.field-0.0 ≡ Late (get_or rs k no_rank).row.number = grind arith in
-    let judged = subst (λ (o : Option (Answer × Higher)). RankJudged g.K.Kind.demand self.places.now self.newcomer.now c.loop-k.higher.items (get_or rs k no_rank) c.blocking_of-blocking.result o) none c.judge_rank.ensures in
+    let judged = subst (λ (o : Option (Answer × Higher g.row.K.Denot)). RankJudged g.K.Kind.demand self.places.now self.newcomer.now c.loop-k.higher.items (get_or rs k no_rank) c.blocking_of-blocking.result o) none c.judge_rank.ensures in
     let p = err_from_is_err_and c.from_residual.result c.from_residual.ensures.1 in
     rw (p.1, p.2, why) (
       k,
@@ -40,10 +40,10 @@ loop-k-preserved g c =
     blocked_is rs _ k c.ceilings_of-ceilings.result c.ceilings_of-ceilings.ensures.each (take_rest rs (k + 1)) _ c.blocking_of-blocking.ensures.value
     in
     let some : c.judge_rank.result ≡ Some (c.in_ok-answer.answer, c.in_ok-answer.met) = grind arith in
-    let answered = subst (λ (o : Option (Answer × Higher)). RankJudged g.K.Kind.demand self.places.now self.newcomer.now c.loop-k.higher.items (get_or rs k no_rank) c.blocking_of-blocking.result o) some c.judge_rank.ensures in
+    let answered = subst (λ (o : Option (Answer × Higher g.row.K.Denot)). RankJudged g.K.Kind.demand self.places.now self.newcomer.now c.loop-k.higher.items (get_or rs k no_rank) c.blocking_of-blocking.result o) some c.judge_rank.ensures in
     let so_far = judged_more g.K.Kind.demand self.places.now self.newcomer.now rs k c.loop-k-test.true c.blocking_of-blocking.result blocked (answers_of c.loop-k.answers) c.loop-k.higher.items c.loop-k.invariant.1 c.in_ok-answer.answer c.in_ok-answer.met answered in (
       c.push.ensures.count ∙ ap (λ n. n + 1) c.loop-k.invariant.0,
-      subst₂ (λ (answers : List Answer) (higher : List Higher). SoFar g.K.Kind.demand self.places.now self.newcomer.now (loads (map (claim_of g.K.Kind.demand self.places.now self.newcomer.now) rs)) (k + 1) answers higher)
+      subst₂ (λ (answers : List Answer) (higher : List (Higher g.row.K.Denot)). SoFar g.K.Kind.demand self.places.now self.newcomer.now (loads (map (claim_of g.K.Kind.demand self.places.now self.newcomer.now) rs)) (k + 1) answers higher)
           (sym c.push.ensures.answers) (sym c.push-in-loop-k.ensures.items) so_far,
     )
 
