@@ -1,5 +1,5 @@
 -- How a hold is refused or accepted. Assumes nothing.
-use Rattle.std.proofs.Common.{◌≡◌, ℕ, ◌<◌, ◌≤◌, Bool, true, false, cond, leb, List, [], ◌∷◌, ◌++◌, length, take, is_some, not, None, Some, Err, Option, sym, refl, ap, ◌∙◌, subst, arith, ne_eqb}
+use Rattle.std.proofs.Common.{◌≡◌, ℕ, ◌<◌, ◌≤◌, Bool, true, false, cond, leb, List, [], ◌∷◌, ◌++◌, length, is_some, not, None, Some, Err, Option, sym, refl, ap, ◌∙◌, subst, arith, ne_eqb}
 use Rattle.demand.specs.Demand.{Demand}
 use Rattle.analysis.specs.declared.Task.{Task}
 use Rattle.analysis.specs.declared.judgement.JudgeRefusal.{JudgeRefusal}
@@ -15,7 +15,7 @@ use Rattle.table.specs.Agreement.{AgreesWith}
 use Rattle.table.specs.declared.State.TheVariants.{Free}
 use Rattle.table.specs.declared.Table.{Table}
 use Rattle.table.specs.Places.{PlaceWhere}
-use Rattle.table.proofs.Lookups.{place_free}
+use Rattle.table.proofs.Lookups.{tasks, place_free}
 use Rattle.table.proofs.Judgements.{newcomer_late, never_too_many}
 use Rattle.table.proofs.Shared.{Numbered, not_taken, at_least_five}
 
@@ -83,7 +83,7 @@ module _ {K : Type 0} {demand : K → Demand} {a : Account} (t : Table K) (agree
   passes p some = behind a c (sym early) false (place_free t agrees r place ∙ ap (λ o. not (is_some o)) some)
 
 -- a newcomer that is judged to be late
-pub refused_judged : {K : Type 0} {demand : K → Demand} {a : Account} (t : Table K) → AgreesWith demand a t → (u : Task K) → first (hold_checks a (record { row = u.row; demand = demand u.kind })) ≡ 0 → (j : JudgeRefusal) → Judged (claims demand (take 12 t.places.now) (Some u)) (Err j) → Refused a (record { row = u.row; demand = demand u.kind }) (as_refusal j)
+pub refused_judged : {K : Type 0} {demand : K → Demand} {a : Account} (t : Table K) → AgreesWith demand a t → (u : Task K) → first (hold_checks a (record { row = u.row; demand = demand u.kind })) ≡ 0 → (j : JudgeRefusal) → Judged (claims demand (tasks t) (Some u)) (Err j) → Refused a (record { row = u.row; demand = demand u.kind }) (as_refusal j)
 refused_judged t agrees u z TooMany judged = absurd (never_too_many t agrees u z judged)
 refused_judged {demand = demand} {a = a} t agrees u z (JudgedLate n) judged =
     refused_late a (record { row = u.row; demand = demand u.kind }) n z (newcomer_late t agrees u z n judged)
