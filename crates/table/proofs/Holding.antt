@@ -1,5 +1,6 @@
 -- How a hold is refused or accepted. Assumes nothing.
 use Rattle.std.proofs.Common.{◌≡◌, ℕ, ◌<◌, ◌≤◌, Bool, true, false, cond, leb, List, [], ◌∷◌, ◌++◌, length, is_some, not, None, Some, Err, Option, sym, refl, ap, ◌∙◌, subst, arith, ne_eqb}
+use Rattle.std.proofs.lemmas.Bool.{cond_both}
 use Rattle.demand.specs.Demand.{Demand}
 use Rattle.analysis.specs.declared.Task.{Task}
 use Rattle.analysis.specs.declared.judgement.JudgeRefusal.{JudgeRefusal}
@@ -19,13 +20,9 @@ use Rattle.table.proofs.Lookups.{tasks, place_free}
 use Rattle.table.proofs.Judgements.{newcomer_late, never_too_many}
 use Rattle.table.proofs.Shared.{Numbered, not_taken, at_least_five}
 
-cond_at_most : (b : Bool) (m n high : ℕ) → m ≤ high → n ≤ high → cond b m n ≤ high
-cond_at_most true m n high h k = h
-cond_at_most false m n high h k = k
-
 first_at_most : (low high : ℕ) (cs : List (Bool × ℕ)) → Numbered low high cs → first cs ≤ high
 first_at_most low high [] n = omega arith
-first_at_most low high (c ∷ cs) n = cond_at_most c.0 c.1 (first cs) high n.0.1 (first_at_most low high cs n.1)
+first_at_most low high (c ∷ cs) n = cond_both c.0 c.1 (first cs) (λ m. m ≤ high) (λ _. n.0.1) (λ _. first_at_most low high cs n.1)
 
 -- what differs only where the test is false
 same_where_false : (b : Bool) (n m k : ℕ) → (b ≡ false → m ≡ k) → cond b n m ≡ cond b n k

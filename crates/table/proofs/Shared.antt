@@ -38,9 +38,7 @@ length_reordered swapped = refl
 length_reordered (through r q) = length_reordered r ∙ length_reordered q
 
 or_swap : (x y z : Bool) → (x || (y || z)) ≡ (y || (x || z))
-or_swap true true z = refl
-or_swap true false z = refl
-or_swap false y z = refl
+or_swap x y z = grind arith
 
 -- whether one of these passes a test does not hang on their order
 any_reordered : {A : Type 0} (test : A → Bool) {xs ys : List A} → Reordered xs ys → list_any test xs ≡ list_any test ys
