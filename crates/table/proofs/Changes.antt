@@ -4,7 +4,7 @@ use mathlib.Core.Path.{subst₃}
 use native.Mathlib.Decide.{ℕ_discrete}
 use lib.Seq.{take-set-lt}
 use Rattle.std.proofs.lemmas.List.{length-set, length-take, get_or-set_same, get_or-set_other, get_or-take, set-get_or}
-use Rattle.std.proofs.lemmas.Bool.{and_from, or_left}
+use Rattle.std.proofs.lemmas.Bool.Decides.{nat_tests}
 use Rattle.demand.specs.Demand.{Demand, Lawful}
 use Rattle.demand.specs.Refusals.{first}
 use Rattle.analysis.specs.declared.Task.{Task}
@@ -49,11 +49,10 @@ without_reordered n (swapped {a = a} {b = b} {xs = xs}) = go (eqb (number_of a) 
 without_reordered n (through r q) = through (without_reordered n r) (without_reordered n q)
 
 unspent_new : (table n : ℕ) (hs : List Bears) → unspent table n (record { table = table; row = n } ∷ hs) ≡ true
-unspent_new table n hs =
-    or_left (eqb table table && eqb n n) (unspent table n hs) (and_from (eqb table table) (eqb n n) (eq-eqb table table refl) (eq-eqb n n refl))
+unspent_new table n hs = grind (arith, nat_tests)
 
 unspent_more : (table m n : ℕ) → m ≢ n → (hs : List Bears) → unspent table m (record { table = table; row = n } ∷ hs) ≡ unspent table m hs
-unspent_more table m n ne hs = ap (λ b. b || unspent table m hs) (bears_other table m n (record { table = table; row = n }) refl ne)
+unspent_more table m n ne hs = grind (arith, nat_tests)
 
 module _ {K : Type 0} (demand : K → Demand) where
   abbrev pub claim : Task K → Claim
@@ -118,8 +117,7 @@ put_agrees : {K : Type 0} {demand : K → Demand} {b : Account} {t u : Table K} 
 put_agrees {demand = demand} {b = b} put agrees = subst₃ (Agrees demand b) (sym put.number) (sym put.states) (sym put.places) agrees
 
 nothing_stands : {K : Type 0} (a : Account) (o : Option (Task K)) → StandsAt a Free o → o ≡ None
-nothing_stands a None s = refl
-nothing_stands a (Some u) s = absurd s
+nothing_stands a o s = grind arith
 
 module _ {K : Type 0} {demand : K → Demand} {a : Account} (t : Table K) (agrees : AgreesWith demand a t) where
   -- a row comes in at a free place

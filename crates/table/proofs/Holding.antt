@@ -26,8 +26,7 @@ first_at_most low high (c ∷ cs) n = cond_both c.0 c.1 (first cs) (λ m. m ≤ 
 
 -- what differs only where the test is false
 same_where_false : (b : Bool) (n m k : ℕ) → (b ≡ false → m ≡ k) → cond b n m ≡ cond b n k
-same_where_false true n m k e = refl
-same_where_false false n m k e = e refl
+same_where_false b n m k e = grind arith
 
 -- a check that applies comes before those behind it
 first_front : (cs ds : List (Bool × ℕ)) → 0 < first cs → first (cs ++ ds) ≡ first cs

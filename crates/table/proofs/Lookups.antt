@@ -48,12 +48,7 @@ named n None = false
 named n (Some u) = eqb u.row.number n
 
 names_task : {K : Type 0} (a : Account) (n : ℕ) (s : State) (o : Option (Task K)) → StandsAt a s o → names s n ≡ named n o
-names_task a n Free None h = refl
-names_task a n Free (Some u) h = absurd h
-names_task a n (Held m) None h = absurd h
-names_task a n (Held m) (Some u) h = ap (λ x. eqb x n) h.0
-names_task a n (Kept m) None h = absurd h
-names_task a n (Kept m) (Some u) h = ap (λ x. eqb x n) h.0
+names_task a n s o h = grind arith
 
 not_below : (m n : ℕ) → leb n m ≡ not (ltb m n)
 not_below m n = grind (arith, nat_tests)
@@ -70,8 +65,7 @@ module _ {K : Type 0} (demand : K → Demand) where
 
   -- where the rows have the number n, a task has it
   pub named_more : (n : ℕ) (o : Option (Task K)) (os : List (Option (Task K))) → has_number n (claims_of demand (o ∷ os)) ≡ (named n o || has_number n (claims_of demand os))
-  named_more n None os = refl
-  named_more n (Some u) os = refl
+  named_more n o os = grind arith
 
   -- a place has a row or none
   pub vacant : (os : List (Option (Task K))) → length (filter is_none os) + length (claims_of demand os) ≡ length os
@@ -109,25 +103,12 @@ module _ {K : Type 0} {demand : K → Demand} {a : Account} (t : Table K) (agree
   pub priority_found : (p : ℕ) → has_priority p (claims_of demand (tasks t)) ≡ has_priority p a.rows
   priority_found p = priority_reordered p agrees.rows_are
 
-  none_stands : (s : State) (o : Option (Task K)) → StandsAt a s o → s ≡ Free → is_none o ≡ true
-  none_stands Free None h e = refl
-  none_stands Free (Some u) h e = absurd h
-  none_stands (Held m) o h e = cc
-  none_stands (Kept m) o h e = cc
-
-  free_there : (s : State) (o : Option (Task K)) → StandsAt a s o → is_none o ≡ true → s ≡ Free
-  free_there Free o h e = refl
-  free_there (Held m) None h e = absurd h
-  free_there (Held m) (Some u) h e = cc
-  free_there (Kept m) None h e = absurd h
-  free_there (Kept m) (Some u) h e = cc
-
   -- a place is free exactly where the account has room
   pub place_free : (r : Option ℕ) → PlaceWhere t (λ s. s ≡ Free) r → leb a.room (length a.rows) ≡ not (is_some r)
   place_free r f =
       let room : length (tasks t) ≡ a.room = omega (arith, length-take 12 t.places.now, agrees.room_is) in
       not_below (length a.rows) a.room
-      ∙ ap not (sym (found (λ s. s ≡ Free) (λ os. ltb (length (claims_of demand os)) (length os)) is_none refl step none_stands free_there r f ∙ rw (room, length_reordered agrees.rows_are)))
+      ∙ ap not (sym (found (λ s. s ≡ Free) (λ os. ltb (length (claims_of demand os)) (length os)) is_none refl step (λ s o h e. grind arith) (λ s o h e. grind arith) r f ∙ rw (room, length_reordered agrees.rows_are)))
     where
       step : (o : Option (Task K)) (os : List (Option (Task K))) → ltb (length (claims_of demand (o ∷ os))) (length (o ∷ os)) ≡ (is_none o || ltb (length (claims_of demand os)) (length os))
       step None os = lt-ltb (length (claims_of demand os)) (length (None ∷ os)) (let l = claims_at_most demand os in omega arith)

@@ -1,5 +1,6 @@
 -- Rows and holds that are taken out of a list, by their numbers. Assumes nothing.
-use Rattle.std.proofs.Common.{◌≡◌, ℕ, Bool, true, false, cond, ◌||◌, eqb, ◌≢◌, List, [], ◌∷◌, sym, refl, ap, ◌∙◌, subst, inl, inr}
+use Rattle.std.proofs.Common.{◌≡◌, ℕ, Bool, true, false, cond, ◌||◌, eqb, ◌≢◌, List, [], ◌∷◌, sym, refl, ap, ◌∙◌, subst, inl, inr, arith}
+use Rattle.std.proofs.lemmas.Bool.Decides.{nat_tests}
 use Rattle.std.proofs.lemmas.Bool.{eqb-true, eqb-false, eq-eqb, ne_eqb, and_parts, and_right, and_from, or_cases, or_parts, or_right, cond_both, both_ways}
 use Rattle.std.proofs.lemmas.List.Recursion.{same_from_clauses}
 use Rattle.demand.specs.Demand.{Lawful}
@@ -70,7 +71,7 @@ has_still m n ne (c ∷ cs) =
     (λ _. ap (λ b. eqb (number_of c) m || b) rest)
 
 pub bears_other : (table m n : ℕ) (h : Bears) → h.row ≡ n → m ≢ n → bears table m h ≡ false
-bears_other table m n h e ne = and_right (eqb h.table table) (eqb h.row m) (ne_eqb h.row m (λ k. ne (sym k ∙ e)))
+bears_other table m n h e ne = grind (arith, nat_tests)
 
 -- the holds of other rows are as before, once a hold is spent
 pub others_stay : (table n other m : ℕ) (hs : List Bears) → m ≢ n → unspent other m (spent table n hs) ≡ unspent other m hs
@@ -83,7 +84,7 @@ others_stay table n other m (h ∷ hs) ne =
 
 -- a hold of the table that does not bear both numbers bears another row
 other_row : (t n : ℕ) (h : Bears) → h.table ≡ t → bears t n h ≡ false → h.row ≢ n
-other_row t n h own q e = both_ways (bears t n h) q (and_from (eqb h.table t) (eqb h.row n) (eq-eqb h.table t own) (eq-eqb h.row n e))
+other_row t n h own q e = grind (arith, nat_tests)
 
 module _ (table : ℕ) (cs : List Claim) where
   pub own_more : (c : Claim) (hs : List Bears) → OwnHolds table cs hs → OwnHolds table (c ∷ cs) hs

@@ -40,11 +40,7 @@ same_answer : (p : ℕ × ℕ) (t v : ℕ) → p.0 ≡ t → p.1 ≡ v → ◌�
 same_answer p t v e f = λ i. Ok (e i, f i)
 
 pub is_late : (e : HoldRefusal) → cond (eqb (hold_number e) 11) 0 (hold_number e) ≡ 0 → hold_number e ≡ 11
-is_late e q = go (eqb (hold_number e) 11) refl q
-  where
-    go : (b : Bool) → eqb (hold_number e) 11 ≡ b → cond b 0 (hold_number e) ≡ 0 → hold_number e ≡ 11
-    go true p z = eqb-true (hold_number e) 11 p
-    go false p z = let h = at_least_five e in absurd (omega arith)
+is_late e q = grind arith
 
 module _ (a : Account) (s : Sound a) where
   bounds_once : (k : ℕ) → k < length a.rows → (r : Result (ℕ × ℕ) BoundRefusal) → BoundsAnswered a (at (loads (ranked a.rows)) k).claim.row.number r → r ≡ Ok (s.in_time.R k, s.in_time.V k)

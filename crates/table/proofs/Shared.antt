@@ -93,13 +93,7 @@ none_applies low high (c ∷ cs) h n e =
     (no_check.0, none_applies low high cs h n.1 no_check.1)
 
 pub at_least_five : (e : HoldRefusal) → 5 ≤ hold_number e
-at_least_five Number = omega arith
-at_least_five Priority = omega arith
-at_least_five Suspension = omega arith
-at_least_five Deadline = omega arith
-at_least_five Section = omega arith
-at_least_five NoPlace = omega arith
-at_least_five (Late n) = omega arith
+at_least_five e = grind arith
 
 -- The number and the priority of a row that passes are new, and there is room for it. Its number is one byte, and its deadline within its spacing.
 pub record Passed (a : Account) (c : Claim) : Type 0 where
@@ -158,9 +152,4 @@ none_named_at demand n (Some x ∷ os) (suc p) u h e = none_named_at demand n os
 module _ {K : Type 0} (a : Account) where
   -- a row of another number stands as it stood
   pub stands_still : (b : Account) (n : ℕ) → ((m : ℕ) → m ≢ n → unspent b.number m b.holds ≡ unspent a.number m a.holds) → (s : State) (o : Option (Task K)) → ((t : Task K) → o ≡ Some t → t.row.number ≢ n) → StandsAt a s o → StandsAt b s o
-  stands_still b n still Free None other h = tt
-  stands_still b n still Free (Some t) other h = h
-  stands_still b n still (Held m) None other h = h
-  stands_still b n still (Held m) (Some t) other h = (h.0, still m (λ e. other t refl (sym h.0 ∙ e)) ∙ h.1)
-  stands_still b n still (Kept m) None other h = h
-  stands_still b n still (Kept m) (Some t) other h = (h.0, still m (λ e. other t refl (sym h.0 ∙ e)) ∙ h.1)
+  stands_still b n still s o other h = grind arith

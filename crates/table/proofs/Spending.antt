@@ -2,6 +2,7 @@
 use Rattle.std.proofs.Common.{◌≡◌, ℕ, ◌<◌, Bool, true, false, ◌&&◌, ◌||◌, eqb, List, [], ◌∷◌, Some, None, Option, Err, Result, sym, refl, ap, ap₂, ◌∙◌, subst, inl, inr, arith}
 use Rattle.std.proofs.lemmas.List.{length-take}
 use Rattle.std.proofs.lemmas.List.Recursion.{or_from_places}
+use Rattle.std.proofs.lemmas.Bool.Decides.{nat_tests}
 use Rattle.std.proofs.lemmas.Bool.{both_ways, eqb-true, eq-eqb, or_cases, or_from, cond_both, false_from_ne_true}
 use Rattle.demand.specs.Demand.{Demand}
 use Rattle.analysis.specs.declared.Task.{Task}
@@ -45,12 +46,7 @@ spent_gone table n (h ∷ hs) =
 module _ {K : Type 0} (a : Account) (n : ℕ) where
   -- where the hold of a task's row is unspent, the row is held
   is_held_there : (s : State) (o : Option (Task K)) → StandsAt a s o → named n o ≡ true → unspent a.number n a.holds ≡ true → s ≡ Held n
-  is_held_there Free None h e u = cc
-  is_held_there Free (Some t) h e u = absurd h
-  is_held_there (Held m) None h e u = absurd h
-  is_held_there (Held m) (Some t) h e u = ap Held (h.0 ∙ eqb-true t.row.number n e)
-  is_held_there (Kept m) None h e u = absurd h
-  is_held_there (Kept m) (Some t) h e u = let same : m ≡ n = h.0 ∙ eqb-true t.row.number n e in cc (h.1)
+  is_held_there s o h e u = grind (arith, nat_tests)
 
 -- the task of a row that is held, or kept: its hold is unspent, or it is not
 pub record TaskAt {K : Type 0} (a : Account) (o : Option (Task K)) (n : ℕ) (b : Bool) : Type 0 where
