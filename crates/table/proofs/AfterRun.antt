@@ -1,5 +1,5 @@
 -- What holds after every run, with what the account then has. Assumes nothing.
-use Rattle.std.proofs.Common.{◌≡◌, ℕ, suc, ◌<◌, true, List, [], ◌∷◌, length, Ok, Err, sym, refl, ap, ◌∙◌, subst, inl, inr, arith}
+use Rattle.std.proofs.Common.{◌≡◌, ℕ, suc, ◌<◌, true, List, [], ◌∷◌, length, Ok, Err, sym, refl, ap, ◌∙◌, inl, inr, arith}
 use Rattle.analysis.specs.declared.Row.{Row}
 use Rattle.analysis.specs.Ranks.{Claim, ranked, loads_of, at, rows, Reordered, same, next, swapped, through}
 use Rattle.analysis.proofs.Order.{highest_first}
@@ -56,8 +56,7 @@ one_named (x ∷ xs) h c d (inr m) (inr k) e = one_named xs h.1 c d m k e
 
 own_among : (table : ℕ) (cs : List Claim) (hs : List Bears) → OwnHolds table cs hs → (h : Bears) → Among h hs → (h.table ≡ table) × (has_number h.row cs ≡ true)
 own_among table cs [] own h m = absurd m
-own_among table cs (x ∷ xs) own h (inl e) = subst (λ (b : Bears). (b.table ≡ table) × (has_number b.row cs ≡ true)) e own.0
-own_among table cs (x ∷ xs) own h (inr m) = own_among table cs xs own.1 h m
+own_among table cs (x ∷ xs) own h m = grind (arith, own_among table cs xs own.1 h)
 
 pub every_run : (number room : ℕ) → EveryRun number room
 every_run number room es a run =

@@ -1,5 +1,5 @@
 -- The table and the account after a call that writes a place. Assumes nothing.
-use Rattle.std.proofs.Common.{◌≡◌, ℕ, zero, suc, ◌<◌, min, Bool, true, false, cond, ◌&&◌, ◌||◌, eqb, ◌≢◌, List, [], ◌∷◌, length, get_or, take, set, Some, None, Option, sym, refl, ap, ◌∙◌, subst, subst₂, not-suc-le-zero, arith, eq-eqb, ne_eqb}
+use Rattle.std.proofs.Common.{◌≡◌, ℕ, zero, suc, ◌<◌, min, Bool, true, false, cond, eqb, ◌≢◌, List, [], ◌∷◌, length, get_or, take, set, Some, None, Option, sym, refl, ap, ◌∙◌, subst, subst₂, not-suc-le-zero, arith}
 use mathlib.Core.Path.{subst₃}
 use native.Mathlib.Decide.{ℕ_discrete}
 use lib.Seq.{take-set-lt}
@@ -20,17 +20,13 @@ use Rattle.table.specs.Memory.{PutAt}
 use Rattle.table.specs.Places.{Uses, At, HeldHere}
 use Rattle.table.proofs.Kept.{with_row_sound, with_kept_sound, released_sound, with_withdrawn_sound}
 use Rattle.table.proofs.Lookups.{tasks, task_at, state_at}
-use Rattle.table.proofs.Parts.{bears_other, others_stay}
+use Rattle.table.proofs.Parts.{others_stay}
 use Rattle.table.proofs.Shared.{reordered_refl, reordered_back, named_reordered, numbers_reordered, passed, none_named_at, stands_still}
 use Rattle.table.proofs.Spending.{stands, held_at, kept_at, is_kept, is_unspent, spent_gone}
 
-without_it : (n : ℕ) (c : Claim) (cs : List Claim) → number_of c ≡ n → without n (c ∷ cs) ≡ without n cs
-without_it n c cs e = ap (λ b. cond b (without n cs) (c ∷ without n cs)) (eq-eqb (number_of c) n e)
-
 without_none : (n : ℕ) (cs : List Claim) → NoneNamed n cs → without n cs ≡ cs
 without_none n [] h = refl
-without_none n (c ∷ cs) h =
-    ap (λ b. cond b (without n cs) (c ∷ without n cs)) (ne_eqb (number_of c) n h.0) ∙ ap (λ xs. c ∷ xs) (without_none n cs h.1)
+without_none n (c ∷ cs) h = grind (arith, nat_tests, without_none n cs h.1)
 
 without_reordered : (n : ℕ) {xs ys : List Claim} → Reordered xs ys → Reordered (without n xs) (without n ys)
 without_reordered n same = same
@@ -110,7 +106,7 @@ module _ {K : Type 0} {demand : K → Demand} {a : Account} (t : Table K) (agree
     row_out n is hs still sound =
         let apart : NoneNamed n rest = subst (λ m. NoneNamed m rest) (sym is) alone in
         written (record { number = a.number; room = a.room; rows = without n a.rows; holds = hs }) n refl refl still apart Free None tt
-        (reordered_back (subst (Reordered (without n a.rows)) (without_it n (claim demand u) rest (sym is) ∙ without_none n rest apart) (without_reordered n split))) sound
+        (reordered_back (subst (Reordered (without n a.rows)) (let out : without n (claim demand u ∷ rest) ≡ without n rest = grind (arith, nat_tests) in out ∙ without_none n rest apart) (without_reordered n split))) sound
 
 -- a table after a place was written, by what was written
 put_agrees : {K : Type 0} {demand : K → Demand} {b : Account} {t u : Table K} {p : ℕ} {s : State} {o : Option (Task K)} → PutAt t u p s o → Agrees demand b t.number (set t.states p s) (set t.places.now p o) → AgreesWith demand b u

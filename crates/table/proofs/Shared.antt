@@ -15,9 +15,7 @@ use Rattle.analysis.proofs.Lawful.{AllLawful, grows, lawful_loads}
 use Rattle.analysis.proofs.Order.{highest_first, lawful_reordered, reordered_append}
 use Rattle.analysis.proofs.Ranked.{length_ranked}
 use Rattle.table.specs.declared.HoldRefusal.{HoldRefusal}
-use Rattle.table.specs.declared.HoldRefusal.TheVariants.{Number, Priority, Suspension, Deadline, Section, NoPlace, Late}
 use Rattle.table.specs.declared.State.{State}
-use Rattle.table.specs.declared.State.TheVariants.{Free, Held, Kept}
 use Rattle.table.specs.Account.{Account, number_of, has_number, has_priority, no_byte, hold_checks, hold_number, unspent, AllInTime}
 use Rattle.table.specs.Agreement.{NoneNamed, DistinctNumbers, LawfulRows, StandsAt}
 use Rattle.table.proofs.Parts.{all_lawful, none_named, none_at}
@@ -142,12 +140,8 @@ has_plan cs lawful t no_plan = no_plan t.V t.R (is_plan (system_of cs) (needs_gr
 
 pub none_named_at : {K : Type 0} (demand : K → Demand) (n : ℕ) (os : List (Option (Task K))) (p : ℕ) (u : Task K) → NoneNamed n (claims_of demand os) → get_or os p None ≡ Some u → u.row.number ≢ n
 none_named_at demand n [] p u h e = cc
-none_named_at demand n (None ∷ os) zero u h e = cc
-none_named_at demand n (None ∷ os) (suc p) u h e = none_named_at demand n os p u h e
-none_named_at {K} demand n (Some x ∷ os) zero u h e =
-    let same_task : x ≡ u = cc in
-    subst (λ (y : Task K). y.row.number ≢ n) same_task h.0
-none_named_at demand n (Some x ∷ os) (suc p) u h e = none_named_at demand n os p u h.1 e
+none_named_at demand n (o ∷ os) zero u h e = grind arith
+none_named_at demand n (o ∷ os) (suc p) u h e = grind (arith, none_named_at demand n os p u)
 
 module _ {K : Type 0} (a : Account) where
   -- a row of another number stands as it stood

@@ -1,9 +1,9 @@
 -- Holds that are spent and holds that are not, by where they stand in the table. Assumes nothing.
-use Rattle.std.proofs.Common.{◌≡◌, ℕ, ◌<◌, Bool, true, false, ◌&&◌, ◌||◌, eqb, List, [], ◌∷◌, Some, None, Option, Err, Result, sym, refl, ap, ap₂, ◌∙◌, subst, inl, inr, arith}
+use Rattle.std.proofs.Common.{◌≡◌, ℕ, ◌<◌, Bool, true, false, List, [], ◌∷◌, Some, None, Option, Err, Result, sym, refl, ap, ◌∙◌, subst, arith}
 use Rattle.std.proofs.lemmas.List.{length-take}
 use Rattle.std.proofs.lemmas.List.Recursion.{or_from_places}
 use Rattle.std.proofs.lemmas.Bool.Decides.{nat_tests}
-use Rattle.std.proofs.lemmas.Bool.{both_ways, eqb-true, eq-eqb, or_cases, or_from, cond_both, false_from_ne_true}
+use Rattle.std.proofs.lemmas.Bool.{both_ways, eqb-true, false_from_ne_true}
 use Rattle.demand.specs.Demand.{Demand}
 use Rattle.analysis.specs.declared.Task.{Task}
 use Rattle.analysis.specs.Candidates.{claims_of}
@@ -14,7 +14,7 @@ use Rattle.table.specs.declared.SpendRefusal.TheVariants.{NotHeld}
 use Rattle.table.specs.declared.State.{State}
 use Rattle.table.specs.declared.State.TheVariants.{Free, Held, Kept}
 use Rattle.table.specs.declared.Table.{Table}
-use Rattle.table.specs.Account.{Account, Bears, has_number, bears, unspent, held, spent, Spends}
+use Rattle.table.specs.Account.{Account, Bears, has_number, unspent, held, spent, Spends}
 use Rattle.table.specs.Agreement.{AgreesWith, StandsAt, StateOf, OwnHolds}
 use Rattle.table.specs.Places.{names, At, HeldHere}
 use Rattle.table.proofs.Lookups.{tasks, task_at, state_at, named, named_more, number_found}
@@ -24,24 +24,17 @@ use Rattle.table.proofs.Shared.{number_reordered}
 -- all holds are of one table, so its number need not be looked at
 same_held : (table n : ℕ) (cs : List Claim) (hs : List Bears) → OwnHolds table cs hs → held n hs ≡ unspent table n hs
 same_held table n cs [] own = refl
-same_held table n cs (h ∷ hs) own =
-    ap₂ (λ x y. x || y) (sym (ap (λ b. b && eqb h.row n) (eq-eqb h.table table own.0.0))) (same_held table n cs hs own.1)
+same_held table n cs (h ∷ hs) own = grind (arith, nat_tests, same_held table n cs hs own.1)
 
 -- a hold's row is among the rows
 row_of_held : (table n : ℕ) (cs : List Claim) (hs : List Bears) → OwnHolds table cs hs → held n hs ≡ true → has_number n cs ≡ true
 row_of_held table n cs [] own e = cc
-row_of_held table n cs (h ∷ hs) own e = elim (or_cases (eqb h.row n) (held n hs) e) [
-  | inl x ↦ subst (λ (m : ℕ). has_number m cs ≡ true) (eqb-true h.row n x) own.0.1
-  | inr y ↦ row_of_held table n cs hs own.1 y
-]
+row_of_held table n cs (h ∷ hs) own e = grind (arith, nat_tests, row_of_held table n cs hs own.1)
 
 -- after a hold is spent none bears its numbers
 pub spent_gone : (table n : ℕ) (hs : List Bears) → unspent table n (spent table n hs) ≡ false
 spent_gone table n [] = refl
-spent_gone table n (h ∷ hs) =
-    let rest = spent_gone table n hs in
-    cond_both (bears table n h) (spent table n hs) (h ∷ spent table n hs) (λ (xs : List Bears). unspent table n xs ≡ false) (λ e. rest)
-    (λ e. or_from (bears table n h) (unspent table n (spent table n hs)) e rest)
+spent_gone table n (h ∷ hs) = grind (arith, nat_tests, spent_gone table n hs)
 
 module _ {K : Type 0} (a : Account) (n : ℕ) where
   -- where the hold of a task's row is unspent, the row is held
