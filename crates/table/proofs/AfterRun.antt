@@ -35,11 +35,8 @@ numbers number room (more {e = e} {a = a} {b = b} r s) =
 
 among_reordered : {A : Type 0} (x : A) {xs ys : List A} → Reordered xs ys → Among x xs → Among x ys
 among_reordered x same m = m
-among_reordered x (next r) (inl e) = inl e
-among_reordered x (next r) (inr m) = inr (among_reordered x r m)
-among_reordered x swapped (inl e) = inr (inl e)
-among_reordered x swapped (inr (inl e)) = inl e
-among_reordered x swapped (inr (inr m)) = inr (inr m)
+among_reordered x (next r) m = grind (arith, among_reordered x r)
+among_reordered x swapped m = grind arith
 among_reordered x (through r q) m = among_reordered x q (among_reordered x r m)
 
 rank_among : (all : List Row) (c : Claim) (cs : List Claim) → Among c cs → (k : ℕ) × (k < length cs) × ((at (loads_of all cs) k).claim ≡ c)
@@ -49,10 +46,7 @@ rank_among all c (d ∷ ds) (inr m) = let rest = rank_among all c ds m in (suc r
 
 one_named : (cs : List Claim) → DistinctNumbers cs → (c d : Claim) → Among c cs → Among d cs → number_of c ≡ number_of d → c ≡ d
 one_named [] h c d m k e = absurd m
-one_named (x ∷ xs) h c d (inl p) (inl q) e = sym p ∙ q
-one_named (x ∷ xs) h c d (inl p) (inr k) e = absurd (none_among (number_of x) xs h.0 d k (sym e ∙ ap number_of (sym p)))
-one_named (x ∷ xs) h c d (inr m) (inl q) e = absurd (none_among (number_of x) xs h.0 c m (e ∙ ap number_of (sym q)))
-one_named (x ∷ xs) h c d (inr m) (inr k) e = one_named xs h.1 c d m k e
+one_named (x ∷ xs) h c d m k e = grind (arith, none_among (number_of x) xs h.0, one_named xs h.1 c d)
 
 own_among : (table : ℕ) (cs : List Claim) (hs : List Bears) → OwnHolds table cs hs → (h : Bears) → Among h hs → (h.table ≡ table) × (has_number h.row cs ≡ true)
 own_among table cs [] own h m = absurd m

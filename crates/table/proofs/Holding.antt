@@ -31,15 +31,12 @@ same_where_false b n m k e = grind arith
 -- a check that applies comes before those behind it
 first_front : (cs ds : List (Bool × ℕ)) → 0 < first cs → first (cs ++ ds) ≡ first cs
 first_front [] ds pos = absurd (omega arith)
-first_front (c ∷ cs) ds pos =
-    same_where_false c.0 c.1 (first (cs ++ ds)) (first cs) (λ e. first_front cs ds (subst (λ (b : Bool). 0 < cond b c.1 (first cs)) e pos))
+first_front (c ∷ cs) ds pos = grind (arith, first_front cs ds)
 
 -- where none applies, those behind decide
 first_behind : (low high : ℕ) (cs ds : List (Bool × ℕ)) → 1 ≤ low → Numbered low high cs → first cs ≡ 0 → first (cs ++ ds) ≡ first ds
 first_behind low high [] ds h n z = refl
-first_behind low high (c ∷ cs) ds h n z =
-    let no_check = not_taken c.0 c.1 (first cs) (let l = n.0.0 in omega arith) z in
-    ap (λ (b : Bool). cond b c.1 (first (cs ++ ds))) no_check.0 ∙ first_behind low high cs ds h n.1 no_check.1
+first_behind low high (c ∷ cs) ds h n z = grind (arith, n.0.0, first_behind low high cs ds h n.1)
 
 row_numbered : (a : Account) (c : Claim) → Numbered 5 9 (row_checks a c)
 row_numbered a c =

@@ -1,6 +1,7 @@
 -- What the judgement of the rows at the places says of the account. Assumes nothing.
 use Rattle.std.proofs.Common.{◌≡◌, ℕ, zero, suc, ◌<◌, Bool, false, ◌||◌, eqb, ◌≢◌, List, [], ◌∷◌, ◌++◌, length, get_or, Some, None, Ok, Err, Option, Result, sym, refl, ap, ◌∙◌, subst, inl, inr, arith, length-take, ne_eqb, eqb-true}
 use Rattle.std.specs.Option.{ok_or}
+use Rattle.std.proofs.lemmas.Bool.Decides.{nat_tests}
 use Rattle.std.proofs.lemmas.Bool.{cases_Bool, eq-eqb}
 use Rattle.std.proofs.lemmas.List.{append-nil}
 use Rattle.std.proofs.lemmas.Option.{some_pair_parts}
@@ -30,9 +31,7 @@ use Rattle.table.proofs.Shared.{reordered_back, length_reordered, number_reorder
 -- where no rank has the number, no row has it
 none_numbered : (n : ℕ) (all : List Row) (cs : List Claim) → ((k : ℕ) → k < length cs → (at (loads_of all cs) k).claim.row.number ≢ n) → has_number n cs ≡ false
 none_numbered n all [] h = refl
-none_numbered n all (c ∷ cs) h =
-    ap (λ (b : Bool). b || has_number n cs) (ne_eqb (number_of c) n (h 0 (omega arith)))
-    ∙ none_numbered n all cs (λ k l. h (suc k) (omega arith))
+none_numbered n all (c ∷ cs) h = grind (arith, nat_tests, h 0, none_numbered n all cs (λ k l. h (suc k) (omega arith)))
 
 -- the answer for the number n is one of the answers
 record AnswerAt (n t v : ℕ) (answers : List Answer) : Type 0 where
@@ -55,11 +54,8 @@ answer_at n t v (x ∷ rest) e = elim (cases_Bool (eqb x.number n)) [
 
 no_answer_at : (n : ℕ) (answers : List Answer) → answer_of n answers ≡ None → (k : ℕ) → k < length answers → (get_or answers k no_answer).number ≢ n
 no_answer_at n [] e k l = omega arith
-no_answer_at n (x ∷ rest) e zero l = λ q. let here = rw (eq-eqb x.number n q) at e in cc
-no_answer_at n (x ∷ rest) e (suc k) l = elim (cases_Bool (eqb x.number n)) [
-  | inl h ↦ let here = rw h at e in cc
-  | inr h ↦ no_answer_at n rest (rw h at e) k (omega arith)
-]
+no_answer_at n (x ∷ rest) e zero l = grind (arith, nat_tests)
+no_answer_at n (x ∷ rest) e (suc k) l = grind (arith, nat_tests, no_answer_at n rest)
 
 module _ {K : Type 0} {demand : K → Demand} {a : Account} (t : Table K) (agrees : AgreesWith demand a t) where
   abbrev pub claim_of_task : Task K → Claim

@@ -61,17 +61,10 @@ has_still : (m n : ℕ) → m ≢ n → (cs : List Claim) → has_number m (with
 has_still m n ne [] = refl
 has_still m n ne (c ∷ cs) = grind (arith, nat_tests, has_still m n ne cs)
 
-pub bears_other : (table m n : ℕ) (h : Bears) → h.row ≡ n → m ≢ n → bears table m h ≡ false
-bears_other table m n h e ne = grind (arith, nat_tests)
-
 -- the holds of other rows are as before, once a hold is spent
 pub others_stay : (table n other m : ℕ) (hs : List Bears) → m ≢ n → unspent other m (spent table n hs) ≡ unspent other m hs
 others_stay table n other m [] ne = refl
 others_stay table n other m (h ∷ hs) ne = grind (arith, nat_tests, others_stay table n other m hs ne)
-
--- a hold of the table that does not bear both numbers bears another row
-other_row : (t n : ℕ) (h : Bears) → h.table ≡ t → bears t n h ≡ false → h.row ≢ n
-other_row t n h own q e = grind (arith, nat_tests)
 
 module _ (table : ℕ) (cs : List Claim) where
   pub own_more : (c : Claim) (hs : List Bears) → OwnHolds table cs hs → OwnHolds table (c ∷ cs) hs

@@ -86,9 +86,7 @@ NoneApplies (c ∷ cs) = (c.0 ≡ false) × NoneApplies cs
 
 none_applies : (low high : ℕ) (cs : List (Bool × ℕ)) → 1 ≤ low → Numbered low high cs → first cs ≡ 0 → NoneApplies cs
 none_applies low high [] h n e = tt
-none_applies low high (c ∷ cs) h n e =
-    let no_check = not_taken c.0 c.1 (first cs) (let l = n.0.0 in omega arith) e in
-    (no_check.0, none_applies low high cs h n.1 no_check.1)
+none_applies low high (c ∷ cs) h n e = grind (arith, n.0.0, none_applies low high cs h n.1)
 
 pub at_least_five : (e : HoldRefusal) → 5 ≤ hold_number e
 at_least_five e = grind arith
