@@ -1,5 +1,5 @@
 -- What holds after every run, with what the account then has. Assumes nothing.
-use Rattle.std.proofs.Common.{◌≡◌, ℕ, suc, ◌<◌, true, List, [], ◌∷◌, length, Ok, Err, sym, refl, ap, ◌∙◌, inl, inr, arith}
+use Rattle.std.proofs.Common.{◌≡◌, ℕ, suc, ◌<◌, true, List, [], ◌∷◌, length, Ok, Err, refl, ◌∙◌, inl, inr, arith}
 use Rattle.analysis.specs.declared.Row.{Row}
 use Rattle.analysis.specs.Ranks.{Claim, ranked, loads_of, at, rows, Reordered, same, next, swapped, through}
 use Rattle.analysis.proofs.Order.{highest_first}

@@ -1,5 +1,5 @@
 -- How a hold is refused or accepted. Assumes nothing.
-use Rattle.std.proofs.Common.{◌≡◌, ℕ, ◌<◌, ◌≤◌, Bool, true, false, cond, leb, List, [], ◌∷◌, ◌++◌, length, is_some, not, None, Some, Err, Option, sym, refl, ap, ◌∙◌, subst, arith, ne_eqb}
+use Rattle.std.proofs.Common.{◌≡◌, ℕ, ◌<◌, ◌≤◌, Bool, true, false, cond, leb, List, [], ◌∷◌, ◌++◌, length, is_some, not, None, Some, Err, Option, sym, refl, ap, ◌∙◌, arith, ne_eqb}
 use Rattle.std.proofs.lemmas.Bool.{cond_both}
 use Rattle.demand.specs.Demand.{Demand}
 use Rattle.analysis.specs.declared.Task.{Task}
@@ -18,15 +18,11 @@ use Rattle.table.specs.declared.Table.{Table}
 use Rattle.table.specs.Places.{PlaceWhere}
 use Rattle.table.proofs.Lookups.{tasks, place_free}
 use Rattle.table.proofs.Judgements.{newcomer_late, never_too_many}
-use Rattle.table.proofs.Shared.{Numbered, not_taken, at_least_five}
+use Rattle.table.proofs.Shared.{Numbered, at_least_five}
 
 first_at_most : (low high : ℕ) (cs : List (Bool × ℕ)) → Numbered low high cs → first cs ≤ high
 first_at_most low high [] n = omega arith
 first_at_most low high (c ∷ cs) n = cond_both c.0 c.1 (first cs) (λ m. m ≤ high) (λ _. n.0.1) (λ _. first_at_most low high cs n.1)
-
--- what differs only where the test is false
-same_where_false : (b : Bool) (n m k : ℕ) → (b ≡ false → m ≡ k) → cond b n m ≡ cond b n k
-same_where_false b n m k e = grind arith
 
 -- a check that applies comes before those behind it
 first_front : (cs ds : List (Bool × ℕ)) → 0 < first cs → first (cs ++ ds) ≡ first cs

@@ -1,8 +1,8 @@
 -- What the judgement of the rows at the places says of the account. Assumes nothing.
-use Rattle.std.proofs.Common.{◌≡◌, ℕ, zero, suc, ◌<◌, Bool, false, ◌||◌, eqb, ◌≢◌, List, [], ◌∷◌, ◌++◌, length, get_or, Some, None, Ok, Err, Option, Result, sym, refl, ap, ◌∙◌, subst, inl, inr, arith, length-take, ne_eqb, eqb-true}
+use Rattle.std.proofs.Common.{◌≡◌, ℕ, zero, suc, ◌<◌, false, eqb, ◌≢◌, List, [], ◌∷◌, ◌++◌, length, get_or, Some, None, Ok, Err, Option, Result, sym, refl, ◌∙◌, subst, inl, inr, arith, length-take, eqb-true}
 use Rattle.std.specs.Option.{ok_or}
 use Rattle.std.proofs.lemmas.Bool.Decides.{nat_tests}
-use Rattle.std.proofs.lemmas.Bool.{cases_Bool, eq-eqb}
+use Rattle.std.proofs.lemmas.Bool.{cases_Bool}
 use Rattle.std.proofs.lemmas.List.{append-nil}
 use Rattle.std.proofs.lemmas.Option.{some_pair_parts}
 use Rattle.demand.specs.Demand.{Demand}
@@ -14,7 +14,7 @@ use Rattle.analysis.specs.declared.Row.{Row}
 use Rattle.analysis.specs.Plans.{Bounds, NoPlan}
 use Rattle.analysis.specs.Ranks.{Claim, Reordered, next, through, ranked, rows, loads_of, loads, at, system, system_of}
 use Rattle.table.specs.declared.Table.{Table}
-use Rattle.table.specs.Account.{Account, number_of, has_number, hold_checks, AllInTime, BoundsAnswered}
+use Rattle.table.specs.Account.{Account, has_number, hold_checks, AllInTime, BoundsAnswered}
 use Rattle.table.specs.declared.BoundRefusal.TheVariants.{NoSuchRow}
 use Rattle.table.specs.Agreement.{AgreesWith}
 use Rattle.table.specs.Places.{answer_of}

@@ -1,5 +1,5 @@
 -- The rows and holds of an account are those that the run says. Assumes nothing.
-use Rattle.std.proofs.Common.{◌≡◌, ℕ, List, ◌∷◌, Ok, Err, sym, ap, inl, inr}
+use Rattle.std.proofs.Common.{◌≡◌, ℕ, List, ◌∷◌, Ok, Err, sym, arith}
 use Rattle.analysis.specs.Ranks.{Claim}
 use Rattle.table.specs.declared.SpendRefusal.TheVariants.{NotHeld}
 use Rattle.table.specs.declared.WithdrawRefusal.TheVariants.{NoSuchRow, NotKept}
@@ -15,32 +15,13 @@ Standing c cs es = (Among c cs → Stands c es) × (Stands c es → Among c cs)
 
 module _ (c : Claim) (cs : List Claim) (es : List Event) (before : Standing c cs es) (e : Event) where
   row_in : (d : Claim) → (TakesIn e c → d ≡ c) → (d ≡ c → TakesIn e c) → (TakesOut e (number_of c) → ⊥) → Standing c (d ∷ cs) (e ∷ es)
-  row_in d to from not_out = (there, back)
-    where
-      there : Among c (d ∷ cs) → Stands c (e ∷ es)
-      there (inl x) = inl (from x)
-      there (inr m) = inr (not_out, before.0 m)
-
-      back : Stands c (e ∷ es) → Among c (d ∷ cs)
-      back (inl t) = inl (to t)
-      back (inr p) = inr (before.1 p.1)
+  row_in d to from not_out = grind (arith, before.0, before.1)
 
   rows_same : (TakesIn e c → ⊥) → (TakesOut e (number_of c) → ⊥) → Standing c cs (e ∷ es)
-  rows_same not_in not_out = (λ m. inr (not_out, before.0 m), back)
-    where
-      back : Stands c (e ∷ es) → Among c cs
-      back (inl t) = absurd (not_in t)
-      back (inr p) = before.1 p.1
+  rows_same not_in not_out = grind (arith, before.0, before.1)
 
   row_out : (n : ℕ) → (TakesIn e c → ⊥) → (TakesOut e (number_of c) → n ≡ number_of c) → (n ≡ number_of c → TakesOut e (number_of c)) → Standing c (without n cs) (e ∷ es)
-  row_out n not_in to from = (there, back)
-    where
-      there : Among c (without n cs) → Stands c (e ∷ es)
-      there m = let p = was_there c n cs m in inr (λ t. p.1 (sym (to t)), before.0 p.0)
-
-      back : Stands c (e ∷ es) → Among c (without n cs)
-      back (inl t) = absurd (not_in t)
-      back (inr p) = stays_there c n cs (λ q. p.0 (from (sym q))) (before.1 p.1)
+  row_out n not_in to from = grind (arith, was_there c n cs, stays_there c n cs, before.0, before.1)
 
 standing_step : (c : Claim) (a b : Account) (es : List Event) (e : Event) → Step a e b → Standing c a.rows es → Standing c b.rows (e ∷ es)
 standing_step c a b es (holding d (Ok h)) step s = rw step.1.1 (row_in c a.rows es s (holding d (Ok h)) d (λ x. x) (λ x. x) (λ x. x))
@@ -67,32 +48,13 @@ module _ (n : ℕ) (a : Account) (es : List Event) (before : HeldNow n a es) (e 
   it = record { table = a.number; row = n }
 
   hold_in : (m : ℕ) → (GivesHold e n → m ≡ n) → (m ≡ n → GivesHold e n) → (SpendsHold e n → ⊥) → (Among it (record { table = a.number; row = m } ∷ a.holds) → Unspent n (e ∷ es)) × (Unspent n (e ∷ es) → Among it (record { table = a.number; row = m } ∷ a.holds))
-  hold_in m to from not_out = (there, back)
-    where
-      there : Among it (record { table = a.number; row = m } ∷ a.holds) → Unspent n (e ∷ es)
-      there (inl x) = inl (from (ap (λ (y : Bears). y.row) x))
-      there (inr x) = inr (not_out, before.0 x)
-
-      back : Unspent n (e ∷ es) → Among it (record { table = a.number; row = m } ∷ a.holds)
-      back (inl t) = inl (let q : m ≡ n = to t in ap (λ (i : ℕ). record { table = a.number; row = i }) q)
-      back (inr p) = inr (before.1 p.1)
+  hold_in m to from not_out = grind (arith, before.0, before.1)
 
   holds_same : (GivesHold e n → ⊥) → (SpendsHold e n → ⊥) → HeldNow n a (e ∷ es)
-  holds_same not_in not_out = (λ m. inr (not_out, before.0 m), back)
-    where
-      back : Unspent n (e ∷ es) → Among it a.holds
-      back (inl t) = absurd (not_in t)
-      back (inr p) = before.1 p.1
+  holds_same not_in not_out = grind (arith, before.0, before.1)
 
   hold_out : (t m : ℕ) → a.number ≡ t → (GivesHold e n → ⊥) → (SpendsHold e n → m ≡ n) → (m ≡ n → SpendsHold e n) → (Among it (spent t m a.holds) → Unspent n (e ∷ es)) × (Unspent n (e ∷ es) → Among it (spent t m a.holds))
-  hold_out t m own not_in to from = (there, back)
-    where
-      there : Among it (spent t m a.holds) → Unspent n (e ∷ es)
-      there x = let p = was_unspent it t m a.holds own x in inr (λ q. p.1 (sym (to q)), before.0 p.0)
-
-      back : Unspent n (e ∷ es) → Among it (spent t m a.holds)
-      back (inl q) = absurd (not_in q)
-      back (inr p) = stays_unspent it t m a.holds (λ q. p.0 (from (sym q))) (before.1 p.1)
+  hold_out t m own not_in to from = grind (arith, was_unspent it t m a.holds own, stays_unspent it t m a.holds, before.0, before.1)
 
 held_step : (n : ℕ) (a b : Account) (es : List Event) (e : Event) → Sound a → Step a e b → HeldNow n a es → HeldNow n b (e ∷ es)
 held_step n a b es (holding d (Ok h)) s step p = rw step.1.1 (hold_in n a es p (holding d (Ok h)) (number_of d) (λ x. x) (λ x. x) (λ x. x))

@@ -6,7 +6,7 @@ use Rattle.demand.specs.Demand.{Lawful}
 use Rattle.analysis.specs.Ranks.{Claim, NoneAt, DistinctPriorities}
 use Rattle.analysis.specs.Removal.{SomeOf, none, keep, leave}
 use Rattle.analysis.proofs.Lawful.{AllLawful}
-use Rattle.table.specs.Account.{Bears, number_of, has_number, has_priority, bears, unspent, held, spent, without}
+use Rattle.table.specs.Account.{Bears, number_of, has_number, has_priority, unspent, held, spent, without}
 use Rattle.table.specs.Agreement.{NoneNamed, DistinctNumbers, LawfulRows, OwnHolds}
 use Rattle.table.specs.Runs.{Among}
 
