@@ -1,30 +1,19 @@
 -- What holds after every run, with what the account then has. Assumes nothing.
-use Rattle.std.proofs.Common.{◌≡◌, ℕ, suc, ◌<◌, true, List, [], ◌∷◌, length, Ok, Err, refl, ◌∙◌, inl, inr, arith}
+use Rattle.std.proofs.Common.{◌≡◌, ℕ, suc, ◌<◌, true, List, [], ◌∷◌, length, refl, ◌∙◌, inl, inr, arith}
 use Rattle.analysis.specs.declared.Row.{Row}
 use Rattle.analysis.specs.Ranks.{Claim, ranked, loads_of, at, rows, Reordered, same, next, swapped, through}
 use Rattle.analysis.proofs.Order.{highest_first}
 use Rattle.analysis.proofs.Ranked.{length_ranked}
-use Rattle.table.specs.declared.SpendRefusal.TheVariants.{NotHeld}
-use Rattle.table.specs.declared.WithdrawRefusal.TheVariants.{NoSuchRow, NotKept}
 use Rattle.table.specs.Account.{Account, Bears, fresh, number_of, has_number}
 use Rattle.table.specs.Agreement.{DistinctNumbers, OwnHolds}
-use Rattle.table.specs.Runs.{Event, holding, keeping, releasing, withdrawing, bounding, Run, begin, more, Step, Among, EveryRun}
+use Rattle.table.specs.Runs.{Event, Run, begin, more, Step, Among, EveryRun}
 use Rattle.table.proofs.Kept.{sound}
 use Rattle.table.proofs.Parts.{none_among}
 use Rattle.table.proofs.Promise as promise
 
 -- a step changes neither the number nor the room
 same_number : (a b : Account) (e : Event) → Step a e b → (b.number ≡ a.number) × (b.room ≡ a.room)
-same_number a b (holding c (Ok h)) s = rw s.1.1 (refl, refl)
-same_number a b (holding c (Err e)) s = rw s.1.1 (refl, refl)
-same_number a b (keeping h (Ok u)) s = rw s.1 (refl, refl)
-same_number a b (keeping h (Err (NotHeld g))) s = rw s.2 (refl, refl)
-same_number a b (releasing h (Ok u)) s = rw s.1 (refl, refl)
-same_number a b (releasing h (Err (NotHeld g))) s = rw s.2 (refl, refl)
-same_number a b (withdrawing n (Ok u)) s = rw s.2 (refl, refl)
-same_number a b (withdrawing n (Err NoSuchRow)) s = rw s.1 (refl, refl)
-same_number a b (withdrawing n (Err NotKept)) s = rw s.2 (refl, refl)
-same_number a b (bounding n r) s = rw s.1 (refl, refl)
+same_number a b e s = grind arith
 
 numbers : (number room : ℕ) {es : List Event} {a : Account} → Run (fresh number room) es a → (a.number ≡ number) × (a.room ≡ room)
 numbers number room begin = (refl, refl)
