@@ -7,8 +7,10 @@ use Rattle.std.proofs.lemmas.Iterator.{YieldsList}
 use Rattle.std.proofs.lemmas.Iterator.Consumers.{YieldsList-so_far, YieldsList-turn, YieldsList-end}
 use Rattle.std.proofs.lemmas.List.{take-append-drop, take_all, drop_more}
 use Rattle.std.proofs.lemmas.Str.Parse.{IsNumeralModel, numerals_by_fold}
-use Rattle.std.proofs.lemmas.Bool.{and_from, and_left, and_right, and_parts, lt-leb, ltb-true, leb-true, lt-ltb, le-leb, both_ways}
+use Rattle.std.proofs.lemmas.Bool.{and_from, and_left, and_right, and_parts, le-ltb, lt-leb, ltb-true, leb-true, lt-ltb, le-leb}
+use Rattle.std.specs.Option.{ok_or}
 use Rattle.planfile.specs.declared.fault.FieldFault.{FieldFault}
+use Rattle.planfile.specs.declared.fault.FieldFault.TheVariants.{NotNumber}
 use Rattle.planfile.specs.Text.{is_digit, all_digits, value_after, value, is_number}
 
 -- the words of a plan file's numbers are those of digits in base ten
@@ -45,36 +47,45 @@ pub turned : {S : Type 0} {steps : S → Option (Bor ℕ) → S → Type 0} {s :
 turned all e xs None u (t, y, step) = (YieldsList-so_far e xs t y, (YieldsList-end e xs t y None u refl step).1)
 turned all e xs (Some x) u (t, y, step) = (YieldsList-so_far e xs t y, YieldsList-turn e xs t y (Some x) u x refl step)
 
--- what is answered for a field, as an option
-abbrev pub Found : List ℕ → Option ℕ → Type 0
-Found f r = MatchOption r (is_number f ≡ false) (λ n. (is_number f ≡ true) × (n ≡ value f))
+-- what pushing digits answers
+abbrev pub Pushed : ℕ → List ℕ → Option ℕ → Type 0
+Pushed n f r = MatchOption r ((all_digits f ≡ false) ⊎ (2 ^ 32 ≤ value_after n f)) (λ m. (all_digits f ≡ true) × (m ≡ value_after n f) × (m < 2 ^ 32))
+
+module _ (n : ℕ) (f : List ℕ) (k a : ℕ) (digits : all_digits (take k f) ≡ true) (so_far : a ≡ value_after n (take k f)) (fits : a < 2 ^ 32) where
+  -- behind digits stands a byte that is none, or that makes the number too large
+  not_pushed : (b : ℕ) (rest : List ℕ) → f ≡ take k f ++ b ∷ rest → (is_digit b ≡ false) ⊎ (2 ^ 32 ≤ a * 10 + (b - 48)) → (all_digits f ≡ false) ⊎ (2 ^ 32 ≤ value_after n f)
+  not_pushed b rest e (inl other) = inl (ap all_digits e ∙ (digits_append (take k f) (b ∷ rest) digits ∙ and_left _ _ other))
+  not_pushed b rest e (inr large) =
+      let v : value_after n f ≡ value_after (a * 10 + (b - 48)) rest = ap (value_after n) e ∙ (value_append n (take k f) (b ∷ rest) ∙ ap (λ m. value_after (m * 10 + (b - 48)) rest) (sym so_far)) in
+      let grows = value_grows (a * 10 + (b - 48)) rest in
+      inr (omega arith)
+
+  -- all bytes were pushed, or the one at hand was not
+  pub pushed : (o : Option (Bor ℕ)) (r : Option ℕ) (Stops : Bor ℕ → Type 0) → MatchOption o (k ≡ length f) (λ x. (k < length f) × (x.now ≡ get_or f k x.now)) → MatchOption o (r ≡ Some a) Stops → ((x : Bor ℕ) → Stops x → (r ≡ None) × ((is_digit x.now ≡ false) ⊎ (2 ^ 32 ≤ a * 10 + (x.now - 48)))) → Pushed n f r
+  pushed None r Stops end e stops =
+      let whole : take k f ≡ f = take_all k f (omega arith) in
+      rw e (sym (ap all_digits whole) ∙ digits, so_far ∙ ap (value_after n) whole, fits)
+  pushed (Some x) r Stops (lt, is) e stops =
+      let stop = stops x e in
+      let parts : f ≡ take k f ++ x.now ∷ drop (k + 1) f = sym (take-append-drop k f) ∙ (ap (λ t. take k f ++ t) (drop_more f k x.now lt) ∙ ap (λ b. take k f ++ b ∷ drop (k + 1) f) (sym is)) in
+      rw stop.0 (not_pushed x.now (drop (k + 1) f) parts stop.1)
 
 number_from : (f : List ℕ) → 0 < length f → all_digits f ≡ true → value f ≤ 4_294_967_295 → is_number f ≡ true
 number_from f some digits small = and_from _ _ (lt-ltb 0 (length f) some) (and_from _ _ digits (le-leb _ _ small))
 
--- behind digits stands a byte that is none, or that makes the number too large
-not_pushed : (f p : List ℕ) (b : ℕ) (rest : List ℕ) → f ≡ p ++ b ∷ rest → all_digits p ≡ true → (is_digit b ≡ false) ⊎ (2 ^ 32 ≤ value p * 10 + (b - 48)) → is_number f ≡ false
-not_pushed f p b rest e digits (inl other) = and_right (ltb 0 (length f)) _ (and_left _ _ (ap all_digits e ∙ (digits_append p (b ∷ rest) digits ∙ and_left _ _ other)))
-not_pushed f p b rest e digits (inr large) =
-    let v : value f ≡ value_after (value p * 10 + (b - 48)) rest = ap value e ∙ value_append 0 p (b ∷ rest) in
-    let grows = value_grows (value p * 10 + (b - 48)) rest in
-    and_right (ltb 0 (length f)) _ (and_right (all_digits f) _ (lt-leb _ _ (omega arith)))
-
-module _ (f : List ℕ) (k a : ℕ) (some : 0 < length f) (digits : all_digits (take k f) ≡ true) (so_far : a ≡ value (take k f)) (fits : a < 2 ^ 32) where
-  -- all bytes were pushed, or the one at hand was not
-  pub found : (o : Option (Bor ℕ)) (r : Option ℕ) (Stops : Bor ℕ → Type 0) → MatchOption o (k ≡ length f) (λ x. (k < length f) × (x.now ≡ get_or f k x.now)) → MatchOption o (r ≡ Some a) Stops → ((x : Bor ℕ) → Stops x → (r ≡ None) × ((is_digit x.now ≡ false) ⊎ (2 ^ 32 ≤ a * 10 + (x.now - 48)))) → Found f r
-  found None r Stops end e stops =
-      let whole : take k f ≡ f = take_all k f (omega arith) in
-      let same : a ≡ value f = so_far ∙ ap value whole in
-      rw e (number_from f some (sym (ap all_digits whole) ∙ digits) (omega arith), same)
-  found (Some x) r Stops (lt, is) e stops =
-      let stop = stops x e in
-      let parts : f ≡ take k f ++ x.now ∷ drop (k + 1) f = sym (take-append-drop k f) ∙ (ap (λ t. take k f ++ t) (drop_more f k x.now lt) ∙ ap (λ b. take k f ++ b ∷ drop (k + 1) f) (sym is)) in
-      rw stop.0 (not_pushed f (take k f) x.now (drop (k + 1) f) parts digits (subst (λ n. (is_digit x.now ≡ false) ⊎ (2 ^ 32 ≤ n * 10 + (x.now - 48))) so_far stop.1))
-
 -- what reading answers for a field
 abbrev pub Read : List ℕ → Result ℕ FieldFault → Type 0
 Read f r = MatchResult r (λ n. (is_number f ≡ true) × (n ≡ value f)) (λ _. is_number f ≡ false)
+
+-- an empty field is no number
+pub empty_read : (f : List ℕ) → length f ≡ 0 → Read f (Err NotNumber)
+empty_read f e = and_left _ _ (le-ltb 0 (length f) (omega arith))
+
+-- where a field has a byte, what pushing its bytes answers is what reading answers
+pub pushed_read : (f : List ℕ) (o : Option ℕ) (r : Result ℕ FieldFault) → 0 < length f → Pushed 0 f o → r ≡ ok_or o NotNumber → Read f r
+pushed_read f None r some (inl other) e = rw e (and_right (ltb 0 (length f)) _ (and_left _ _ other))
+pushed_read f None r some (inr large) e = rw e (and_right (ltb 0 (length f)) _ (and_right (all_digits f) _ (lt-leb _ _ (omega arith))))
+pushed_read f (Some m) r some (digits, is, fits) e = rw e (number_from f some digits (omega arith), is)
 
 number_parts : (f : List ℕ) → is_number f ≡ true → (0 < length f) × (all_digits f ≡ true) × (value f ≤ 4_294_967_295)
 number_parts f e =
@@ -82,12 +93,13 @@ number_parts f e =
     let q = and_parts (all_digits f) (leb (value f) 4_294_967_295) p.1 in
     (ltb-true 0 (length f) p.0, q.0, leb-true _ _ q.1)
 
--- the digits of a number are read as that number
-pub reads_written : (f : List ℕ) (r : Result ℕ FieldFault) → Read f r → (n : ℕ) → n < 2 ^ 32 → f ≡ decimal n → r ≡ Ok n
-reads_written f (Ok m) (p, q) n small e = ap Ok (q ∙ ap value e ∙ digits_value-decimal own n (omega arith))
-reads_written f (Err x) p n small e =
-    absurd (both_ways (is_number f) p
-    (number_from f (rw e (decimal_nonempty n (omega arith))) (ap all_digits e ∙ digits_decimal own n (omega arith)) (omega (arith, ap value e, digits_value-decimal own n (omega arith)))))
+-- a number that is written has a digit
+pub some_digit : (n : ℕ) → n < 2 ^ 32 → 0 < length (decimal n)
+some_digit n small = decimal_nonempty n (omega arith)
+
+-- its digits are digits, and write it
+pub written_value : (f : List ℕ) (n : ℕ) → f ≡ decimal n → n < 2 ^ 32 → (value_after 0 f ≡ n) × (all_digits f ≡ true)
+written_value f n e small = (ap value e ∙ digits_value-decimal own n (omega arith), ap all_digits e ∙ digits_decimal own n (omega arith))
 
 -- a number without leading zeros is what is written of its value
 pub writes_read : (f : List ℕ) (r : Result ℕ FieldFault) → Read f r → IfOk r (λ n. (get_or f 0 0 ≡ 48 → length f ≡ 1) → decimal n ≡ f)

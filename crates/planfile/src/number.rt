@@ -1,6 +1,6 @@
 // Numbers of a plan file: digits in base ten.
 ghost use Rattle.std.specs.Prelude.{◌≡◌, ℕ, ◌+◌, ◌-◌, ◌*◌, ◌^◌, ◌<◌, ◌≤◌, ◌⊎◌, true, false, length, IfOk, Ok, decimal, MatchOption, MatchResult, slice_index};
-ghost use Rattle.planfile.specs.Text.{is_digit, is_number, value};
+ghost use Rattle.planfile.specs.Text.{all_digits, is_digit, is_number, value, value_after};
 
 use super::FieldFault;
 
@@ -14,7 +14,17 @@ fn push_digit(number: u32, byte: u8) -> Option<u32>
     number.checked_mul(10)?.checked_add(u32::from(byte - b'0'))
 }
 
+// The number with these digits behind it, if all are digits and it still fits.
+fn push_digits(number: u32, digits: &[u8]) -> Option<u32>
+    ensures { MatchOption result ((all_digits digits.now ≡ false) ⊎ (2 ^ 32 ≤ value_after number digits.now)) (λ n. (all_digits digits.now ≡ true) × (n ≡ value_after number digits.now) × (n < 2 ^ 32)) }
+{
+    digits
+        .iter()
+        .try_fold(number, |number, byte| push_digit(number, *byte))
+}
+
 // The number that a field writes.
+#[tactic(auto, using(crate::proofs::Numbers::empty_read, crate::proofs::Numbers::pushed_read, crate::proofs::Numbers::some_digit, crate::proofs::Numbers::written_value, crate::proofs::Numbers::writes_read))]
 pub fn read_number(field: &[u8]) -> Result<u32, FieldFault>
     ensures value { MatchResult result (λ n. (is_number field.now ≡ true) × (n ≡ value field.now)) (λ _. is_number field.now ≡ false) }
     ensures inverse { (n : ℕ) → n < 2 ^ 32 → field.now ≡ decimal n → result ≡ Ok n }
@@ -23,8 +33,5 @@ pub fn read_number(field: &[u8]) -> Result<u32, FieldFault>
     if field.is_empty() {
         return Err(FieldFault::NotNumber);
     }
-    field
-        .iter()
-        .try_fold(0, |number, byte| push_digit(number, *byte))
-        .ok_or(FieldFault::NotNumber)
+    push_digits(0, field).ok_or(FieldFault::NotNumber)
 }
