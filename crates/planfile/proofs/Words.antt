@@ -36,5 +36,5 @@ word_by f =
     (cond (is f (codes "heavy")) Heavy Other)))
 
 -- the word that a field is, so told
-pub word_by_length : (f : List ℕ) → word_of f ≡ word_by f
-word_by_length f = simp same_is
+pub word_is : (f : List ℕ) → word_of f ≡ word_by f
+word_is f = simp same_is

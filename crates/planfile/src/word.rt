@@ -13,7 +13,7 @@ pub(crate) enum Word {
 }
 
 // Which word a field is.
-#[tactic(auto, using(crate::proofs::Words::word_by_length, std::proofs::lemmas::Bool::Decides::nat_tests))]
+#[tactic(auto, using(crate::proofs::Words::word_is, std::proofs::lemmas::Bool::Decides::nat_tests))]
 pub(crate) fn read_word(field: &[u8]) -> Word
     ensures { result ≡ word_of field.now }
 {

@@ -22,7 +22,7 @@ use Rattle.table.proofs.Kept.{with_row_sound, with_kept_sound, released_sound, w
 use Rattle.table.proofs.Lookups.{tasks, task_at, state_at}
 use Rattle.table.proofs.Parts.{others_stay}
 use Rattle.table.proofs.Shared.{reordered_refl, reordered_back, named_reordered, numbers_reordered, passed, none_named_at, stands_still}
-use Rattle.table.proofs.Spending.{stands, held_at, kept_at, is_kept, is_unspent, spent_gone}
+use Rattle.table.proofs.Spending.{stands, held_at, kept_at, is_spent, still_ours, spent_gone}
 
 without_none : (n : ℕ) (cs : List Claim) → NoneNamed n cs → without n cs ≡ cs
 without_none n [] h = refl
@@ -147,7 +147,7 @@ module _ {K : Type 0} {demand : K → Demand} {a : Account} (t : Table K) (agree
       let it = held_at t agrees h.row p here.1 in
       put_agrees put
       (row_out t agrees p here.1.0 it.task it.stands h.row it.number (spent h.table h.row a.holds) (λ m ne. others_stay h.table h.row a.number m a.holds ne)
-      (released_sound a agrees.sound h.table h.row (is_unspent t agrees h p here)))
+      (released_sound a agrees.sound h.table h.row (still_ours t agrees h p here)))
 
   -- a kept row goes out
   pub row_withdrawn : (u : Table K) (n p : ℕ) → At t (λ s. s ≡ Kept n) p → PutAt t u p Free None → AgreesWith demand (with_withdrawn a n) u
@@ -155,4 +155,4 @@ module _ {K : Type 0} {demand : K → Demand} {a : Account} (t : Table K) (agree
       let it = kept_at t agrees n p at in
       put_agrees put
       (row_out t agrees p at.0 it.task it.stands n it.number a.holds (λ m ne. refl)
-      (with_withdrawn_sound a agrees.sound n (is_kept t agrees n p at)))
+      (with_withdrawn_sound a agrees.sound n (is_spent t agrees n p at).1))

@@ -144,3 +144,9 @@ module _ (a : Account) (answers : List Answer) (ranks : Answered (loads (ranked 
       let many = ranks.count in
       number_reordered n (highest_first a.rows).reordered
       ∙ none_numbered n (rows (ranked a.rows)) (ranked a.rows) (λ k l e. no_answer_at n answers (sym found) k (omega arith) ((ranks.rows k (omega arith)).number ∙ e))
+
+-- an account has no row of a number that is not found among the answers
+pub no_bound_found : {K : Type 0} {demand : K → Demand} {a : Account} (t : Table K) → AgreesWith demand a t → (answers : Answers) → Judged (claims demand (tasks t) None) (Ok answers) → (n : ℕ) → answer_of n (answers_of answers) ≡ None → has_number n a.rows ≡ false
+unfolding all_listed
+no_bound_found {a = a} t agrees answers judged n none =
+    bound_found a (answers_of answers) (all_listed t agrees (Ok answers) judged).2 n None (sym none)

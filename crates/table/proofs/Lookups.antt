@@ -1,5 +1,5 @@
 -- What a look into the table says of the account. Assumes nothing.
-use Rattle.std.proofs.Common.{◌≡◌, ℕ, suc, ◌+◌, ◌<◌, ◌≤◌, Bool, true, false, cond, not, ◌||◌, eqb, leb, ltb, List, [], ◌∷◌, length, get_or, take, is_some, Some, None, Option, sym, refl, ap, ◌∙◌, subst, arith, lt-ltb}
+use Rattle.std.proofs.Common.{MatchOption, ◌≡◌, ℕ, suc, ◌+◌, ◌<◌, ◌≤◌, Bool, true, false, cond, not, ◌||◌, eqb, leb, ltb, List, [], ◌∷◌, length, get_or, take, is_some, Some, None, Option, sym, refl, ap, ◌∙◌, subst, arith, lt-ltb}
 use Rattle.std.specs.List.{filter, flat_map, find, list_any}
 use denote.Ref.{Bor}
 use Rattle.std.specs.declared.option.Iter.{OptionIter}
@@ -9,7 +9,7 @@ use Rattle.std.proofs.lemmas.Iterator.Consumers.{YieldsList-from_shown}
 use Rattle.std.specs.Option.{is_none, option_map, option_to_list}
 use Rattle.std.proofs.lemmas.List.{length-take}
 use Rattle.std.proofs.lemmas.List.Recursion.{or_is, same_from_clauses}
-use Rattle.std.proofs.lemmas.Bool.{false_from_ne_true}
+use Rattle.std.proofs.lemmas.Bool.{both_ways, false_from_ne_true}
 use Rattle.std.proofs.lemmas.Bool.Decides.{nat_tests}
 use Rattle.demand.specs.Demand.{Demand}
 use Rattle.analysis.specs.declared.Answer.{Answer}
@@ -99,6 +99,11 @@ module _ {K : Type 0} {demand : K → Demand} {a : Account} (t : Table K) (agree
   number_found n r f =
       found (λ s. names s n ≡ true) (λ os. has_number n (claims_of demand os)) (named n) refl (named_more demand n) (λ s o h e. sym (names_task a n s o h) ∙ e) (λ s o h e. names_task a n s o h ∙ e) r f
       ∙ number_reordered n agrees.rows_are
+
+  -- the same, of what a search through the places says of each
+  pub number_found_within : (n : ℕ) (r : Option ℕ) → MatchOption r ((i : ℕ) → i < 12 → i < length t.places.now → names (state_at t i) n ≡ false) (λ p. (p < 12) × (p < length t.places.now) × (names (state_at t p) n ≡ true)) → is_some r ≡ has_number n a.rows
+  number_found_within n None f = number_found n None (λ p at. both_ways (names (state_at t p) n) (f p at.0.0 at.0.1) at.1)
+  number_found_within n (Some p) f = number_found n (Some p) ((f.0, f.1), f.2)
 
   pub priority_found : (p : ℕ) → has_priority p (claims_of demand (tasks t)) ≡ has_priority p a.rows
   priority_found p = priority_reordered p agrees.rows_are

@@ -1,5 +1,5 @@
 -- Holds that are spent and holds that are not, by where they stand in the table. Assumes nothing.
-use Rattle.std.proofs.Common.{◌≡◌, ℕ, ◌<◌, Bool, true, false, List, [], ◌∷◌, Some, None, Option, Err, Result, sym, refl, ap, ◌∙◌, subst, arith}
+use Rattle.std.proofs.Common.{◌≢◌, ◌≡◌, ℕ, ◌<◌, Bool, true, false, List, [], ◌∷◌, Some, None, Option, Err, Result, sym, refl, ap, ◌∙◌, subst, arith}
 use Rattle.std.proofs.lemmas.List.{length-take}
 use Rattle.std.proofs.lemmas.List.Recursion.{or_from_places}
 use Rattle.std.proofs.lemmas.Bool.Decides.{nat_tests}
@@ -70,8 +70,11 @@ module _ {K : Type 0} {demand : K → Demand} {a : Account} (t : Table K) (agree
   pub is_held : (n p : ℕ) → At t (λ s. s ≡ Held n) p → held n a.holds ≡ true
   is_held n p at = same_held a.number n a.rows a.holds agrees.sound.holds ∙ (held_at n p at).unspent_is
 
-  pub is_kept : (n p : ℕ) → At t (λ s. s ≡ Kept n) p → held n a.holds ≡ false
-  is_kept n p at = same_held a.number n a.rows a.holds agrees.sound.holds ∙ (kept_at n p at).unspent_is
+  -- a kept row has no unspent hold
+  pub is_spent : (n p : ℕ) → At t (λ s. s ≡ Kept n) p → (unspent t.number n a.holds ≡ false) × (held n a.holds ≡ false)
+  is_spent n p at =
+      let there = kept_at n p at in
+      (rw (← agrees.number_is) there.unspent_is, same_held a.number n a.rows a.holds agrees.sound.holds ∙ there.unspent_is)
 
   pub has_row : (n p : ℕ) → At t (λ s. names s n ≡ true) p → has_number n a.rows ≡ true
   has_row n p at = sym (number_found t agrees n (Some p) at)
@@ -83,25 +86,35 @@ module _ {K : Type 0} {demand : K → Demand} {a : Account} (t : Table K) (agree
       go : (s : State) → state_at t p ≡ s → names s n ≡ true → StateOf a n s
       go Free e named = cc
       go (Held m) e named = let same : m ≡ n = eqb-true m n named in (same, has_row n p at, is_held n p (at.0, e ∙ ap Held same))
-      go (Kept m) e named = let same : m ≡ n = eqb-true m n named in (same, has_row n p at, is_kept n p (at.0, e ∙ ap Kept same))
+      go (Kept m) e named = let same : m ≡ n = eqb-true m n named in (same, has_row n p at, (is_spent n p (at.0, e ∙ ap Kept same)).1)
 
   -- a hold is unspent exactly where its row is held here
-  pub is_unspent : (h : Hold) (p : ℕ) → HeldHere t h p → unspent h.table h.row a.holds ≡ true
-  is_unspent h p here = rw (here.0, ← agrees.number_is) (held_at h.row p here.1).unspent_is
+  pub still_ours : (h : Hold) (p : ℕ) → HeldHere t h p → unspent h.table h.row a.holds ≡ true
+  still_ours h p here = rw (here.0, ← agrees.number_is) (held_at h.row p here.1).unspent_is
 
-  is_spent : (h : Hold) → ((p : ℕ) → HeldHere t h p → ⊥) → unspent h.table h.row a.holds ≡ false
-  is_spent h away = false_from_ne_true (unspent h.table h.row a.holds) (λ e. both_ways (has_number h.row (claims_of demand (tasks t))) (gone e) (there e))
+  -- an unspent hold is of this table, and of one of its rows
+  ours : (h : Hold) → unspent h.table h.row a.holds ≡ true → h.table ≡ a.number
+  ours h e = unspent_own a.number a.rows h.table h.row a.holds agrees.sound.holds e
+
+  pub not_ours : (h : Hold) → h.table ≢ t.number → unspent h.table h.row a.holds ≡ false
+  not_ours h other = false_from_ne_true (unspent h.table h.row a.holds) (λ e. other (ours h e ∙ agrees.number_is))
+
+  pub no_row : (n : ℕ) → ((p : ℕ) → At t (λ s. names s n ≡ true) p → ⊥) → unspent t.number n a.holds ≡ false
+  no_row n none =
+      let absent : false ≡ has_number n a.rows = number_found t agrees n None none in
+      false_from_ne_true (unspent t.number n a.holds)
+      (λ e. both_ways (has_number n a.rows) (sym absent) (row_of_held a.number n a.rows a.holds agrees.sound.holds (same_held a.number n a.rows a.holds agrees.sound.holds ∙ rw agrees.number_is e)))
+
+  pub not_unspent : (h : Hold) → ((p : ℕ) → HeldHere t h p → ⊥) → unspent h.table h.row a.holds ≡ false
+  not_unspent h away = false_from_ne_true (unspent h.table h.row a.holds) (λ e. both_ways (has_number h.row (claims_of demand (tasks t))) (gone e) (there e))
     where
-      own : unspent h.table h.row a.holds ≡ true → h.table ≡ a.number
-      own e = unspent_own a.number a.rows h.table h.row a.holds agrees.sound.holds e
-
-      ours : unspent h.table h.row a.holds ≡ true → unspent a.number h.row a.holds ≡ true
-      ours e = subst (λ (m : ℕ). unspent m h.row a.holds ≡ true) (own e) e
+      by_row : unspent h.table h.row a.holds ≡ true → unspent a.number h.row a.holds ≡ true
+      by_row e = subst (λ (m : ℕ). unspent m h.row a.holds ≡ true) (ours h e) e
 
       there : unspent h.table h.row a.holds ≡ true → has_number h.row (claims_of demand (tasks t)) ≡ true
       there e =
           number_reordered h.row agrees.rows_are
-          ∙ row_of_held a.number h.row a.rows a.holds agrees.sound.holds (same_held a.number h.row a.rows a.holds agrees.sound.holds ∙ ours e)
+          ∙ row_of_held a.number h.row a.rows a.holds agrees.sound.holds (same_held a.number h.row a.rows a.holds agrees.sound.holds ∙ by_row e)
 
       gone : unspent h.table h.row a.holds ≡ true → has_number h.row (claims_of demand (tasks t)) ≡ false
       gone e =
@@ -110,8 +123,8 @@ module _ {K : Type 0} {demand : K → Demand} {a : Account} (t : Table K) (agree
           let all = length-take 12 t.places.now in
           let low : i < 12 = omega arith in
           false_from_ne_true (named h.row (task_at t i))
-          (λ q. away i (own e ∙ agrees.number_is, ((low, omega arith), is_held_there a h.row (state_at t i) (task_at t i) (agrees.at_each i low) q (ours e)))))
+          (λ q. away i (ours h e ∙ agrees.number_is, ((low, omega arith), is_held_there a h.row (state_at t i) (task_at t i) (agrees.at_each i low) q (by_row e)))))
 
   -- a hold whose row is not held here comes back, and the account is as it was
   pub comes_back : (h : Hold) (after : Account) (r : Result (Unit {0}) SpendRefusal) → r ≡ Err (NotHeld h) → ((p : ℕ) → HeldHere t h p → ⊥) → (b : Account) × Spends a h after r b × AgreesWith demand b t
-  comes_back h after r is away = (a, rw is (is_spent h away, refl, refl), agrees)
+  comes_back h after r is away = (a, rw is (not_unspent h away, refl, refl), agrees)

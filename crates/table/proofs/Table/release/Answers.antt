@@ -2,7 +2,7 @@ use Rattle.std.proofs.Common.{Err, refl, ap, ◌∙◌}
 use Rattle.std.proofs.lemmas.Result.{err_from_is_err_and}
 use Rattle.table.specs.Account.{with_released}
 use Rattle.table.proofs.Changes.{row_released}
-use Rattle.table.proofs.Spending.{comes_back, is_unspent}
+use Rattle.table.proofs.Spending.{comes_back, still_ours}
 use Rattle.table.proofs.Table.release.Goals as goal
 
 pub returns-in_err-place-clause-account : goal.returns-in_err-place-clause-account
@@ -14,4 +14,4 @@ returns-in_err-place-clause-account g c a agrees =
 pub returns-clause-account : goal.returns-clause-account
 returns-clause-account g c a agrees =
     let here = c.in_ok-place.ensures in
-    (with_released a c.args.hold, (is_unspent c.args.self.now agrees c.args.hold c.in_ok-place.place here, refl), row_released c.args.self.now agrees c.put.new.self c.args.hold c.in_ok-place.place here c.put.ensures)
+    (with_released a c.args.hold, (still_ours c.args.self.now agrees c.args.hold c.in_ok-place.place here, refl), row_released c.args.self.now agrees c.put.new.self c.args.hold c.in_ok-place.place here c.put.ensures)

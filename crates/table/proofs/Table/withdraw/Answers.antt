@@ -6,7 +6,7 @@ use Rattle.table.specs.Account.{with_withdrawn}
 use Rattle.table.specs.Places.{names, At}
 use Rattle.table.proofs.Changes.{row_withdrawn}
 use Rattle.table.proofs.Lookups.{number_found}
-use Rattle.table.proofs.Spending.{has_row, is_held, is_kept}
+use Rattle.table.proofs.Spending.{has_row, is_held, is_spent}
 use Rattle.table.proofs.Table.withdraw.Goals as goal
 
 pub returns-in_err-place-clause-account : goal.returns-in_err-place-clause-account
@@ -27,6 +27,6 @@ returns-clause-account g c a agrees =
     let at : At c.args.self.now (λ s. names s c.args.number ≡ true) c.in_ok-place.place = search rules in
     let kept : At c.args.self.now (λ s. s ≡ Kept c.args.number) c.in_ok-place.place = search rules in (
       with_withdrawn a c.args.number,
-      (has_row c.args.self.now agrees c.args.number c.in_ok-place.place at, is_kept c.args.self.now agrees c.args.number c.in_ok-place.place kept, refl),
+      (has_row c.args.self.now agrees c.args.number c.in_ok-place.place at, (is_spent c.args.self.now agrees c.args.number c.in_ok-place.place kept).1, refl),
       row_withdrawn c.args.self.now agrees c.put.new.self c.args.number c.in_ok-place.place kept c.put.ensures,
     )
