@@ -1,5 +1,5 @@
 // The texts that are written into lent memory.
-ghost use Rattle.std.specs.Prelude.{◌≡◌, ◌+◌, ◌<◌, ◌≤◌, ◌++◌, length};
+ghost use Rattle.std.specs.Prelude.{◌≡◌, ◌≤◌, length};
 ghost use Rattle.arrayvec.specs.ArrayString.{array_string_len};
 ghost use Rattle.planfile.specs.Fault.{blame};
 ghost use Rattle.planfile.specs.Report.{HasRoom, Appended, number_field, line_of, report_line, report, Wrote, RefusalWritten};
