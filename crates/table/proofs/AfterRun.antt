@@ -1,30 +1,19 @@
 -- What holds after every run, with what the account then has. Assumes nothing.
-use Rattle.std.proofs.Common.{◌≡◌, ℕ, suc, ◌<◌, true, List, [], ◌∷◌, length, Ok, Err, sym, refl, ap, ◌∙◌, subst, inl, inr, arith}
+use Rattle.std.proofs.Common.{◌≡◌, ℕ, suc, ◌<◌, true, List, [], ◌∷◌, length, refl, ◌∙◌, inl, inr, arith}
 use Rattle.analysis.specs.declared.Row.{Row}
 use Rattle.analysis.specs.Ranks.{Claim, ranked, loads_of, at, rows, Reordered, same, next, swapped, through}
 use Rattle.analysis.proofs.Order.{highest_first}
 use Rattle.analysis.proofs.Ranked.{length_ranked}
-use Rattle.table.specs.declared.SpendRefusal.TheVariants.{NotHeld}
-use Rattle.table.specs.declared.WithdrawRefusal.TheVariants.{NoSuchRow, NotKept}
 use Rattle.table.specs.Account.{Account, Bears, fresh, number_of, has_number}
 use Rattle.table.specs.Agreement.{DistinctNumbers, OwnHolds}
-use Rattle.table.specs.Runs.{Event, holding, keeping, releasing, withdrawing, bounding, Run, begin, more, Step, Among, EveryRun}
+use Rattle.table.specs.Runs.{Event, Run, begin, more, Step, Among, EveryRun}
 use Rattle.table.proofs.Kept.{sound}
 use Rattle.table.proofs.Parts.{none_among}
 use Rattle.table.proofs.Promise as promise
 
 -- a step changes neither the number nor the room
 same_number : (a b : Account) (e : Event) → Step a e b → (b.number ≡ a.number) × (b.room ≡ a.room)
-same_number a b (holding c (Ok h)) s = rw s.1.1 (refl, refl)
-same_number a b (holding c (Err e)) s = rw s.1.1 (refl, refl)
-same_number a b (keeping h (Ok u)) s = rw s.1 (refl, refl)
-same_number a b (keeping h (Err (NotHeld g))) s = rw s.2 (refl, refl)
-same_number a b (releasing h (Ok u)) s = rw s.1 (refl, refl)
-same_number a b (releasing h (Err (NotHeld g))) s = rw s.2 (refl, refl)
-same_number a b (withdrawing n (Ok u)) s = rw s.2 (refl, refl)
-same_number a b (withdrawing n (Err NoSuchRow)) s = rw s.1 (refl, refl)
-same_number a b (withdrawing n (Err NotKept)) s = rw s.2 (refl, refl)
-same_number a b (bounding n r) s = rw s.1 (refl, refl)
+same_number a b e s = grind arith
 
 numbers : (number room : ℕ) {es : List Event} {a : Account} → Run (fresh number room) es a → (a.number ≡ number) × (a.room ≡ room)
 numbers number room begin = (refl, refl)
@@ -35,11 +24,8 @@ numbers number room (more {e = e} {a = a} {b = b} r s) =
 
 among_reordered : {A : Type 0} (x : A) {xs ys : List A} → Reordered xs ys → Among x xs → Among x ys
 among_reordered x same m = m
-among_reordered x (next r) (inl e) = inl e
-among_reordered x (next r) (inr m) = inr (among_reordered x r m)
-among_reordered x swapped (inl e) = inr (inl e)
-among_reordered x swapped (inr (inl e)) = inl e
-among_reordered x swapped (inr (inr m)) = inr (inr m)
+among_reordered x (next r) m = grind (arith, among_reordered x r)
+among_reordered x swapped m = grind arith
 among_reordered x (through r q) m = among_reordered x q (among_reordered x r m)
 
 rank_among : (all : List Row) (c : Claim) (cs : List Claim) → Among c cs → (k : ℕ) × (k < length cs) × ((at (loads_of all cs) k).claim ≡ c)
@@ -49,15 +35,11 @@ rank_among all c (d ∷ ds) (inr m) = let rest = rank_among all c ds m in (suc r
 
 one_named : (cs : List Claim) → DistinctNumbers cs → (c d : Claim) → Among c cs → Among d cs → number_of c ≡ number_of d → c ≡ d
 one_named [] h c d m k e = absurd m
-one_named (x ∷ xs) h c d (inl p) (inl q) e = sym p ∙ q
-one_named (x ∷ xs) h c d (inl p) (inr k) e = absurd (none_among (number_of x) xs h.0 d k (sym e ∙ ap number_of (sym p)))
-one_named (x ∷ xs) h c d (inr m) (inl q) e = absurd (none_among (number_of x) xs h.0 c m (e ∙ ap number_of (sym q)))
-one_named (x ∷ xs) h c d (inr m) (inr k) e = one_named xs h.1 c d m k e
+one_named (x ∷ xs) h c d m k e = grind (arith, none_among (number_of x) xs h.0, one_named xs h.1 c d)
 
 own_among : (table : ℕ) (cs : List Claim) (hs : List Bears) → OwnHolds table cs hs → (h : Bears) → Among h hs → (h.table ≡ table) × (has_number h.row cs ≡ true)
 own_among table cs [] own h m = absurd m
-own_among table cs (x ∷ xs) own h (inl e) = subst (λ (b : Bears). (b.table ≡ table) × (has_number b.row cs ≡ true)) e own.0
-own_among table cs (x ∷ xs) own h (inr m) = own_among table cs xs own.1 h m
+own_among table cs (x ∷ xs) own h m = grind (arith, own_among table cs xs own.1 h)
 
 pub every_run : (number room : ℕ) → EveryRun number room
 every_run number room es a run =

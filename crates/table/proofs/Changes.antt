@@ -1,9 +1,10 @@
 -- The table and the account after a call that writes a place. Assumes nothing.
-use Rattle.std.proofs.Common.{◌≡◌, ℕ, zero, suc, ◌<◌, min, Bool, true, false, cond, ◌&&◌, ◌||◌, eqb, ◌≢◌, List, [], ◌∷◌, length, get_or, take, set, Some, None, Option, sym, refl, ap, ◌∙◌, subst, subst₂, not-suc-le-zero, arith, eq-eqb, ne_eqb}
+use Rattle.std.proofs.Common.{◌≡◌, ℕ, zero, suc, ◌<◌, min, Bool, true, false, cond, eqb, ◌≢◌, List, [], ◌∷◌, length, get_or, take, set, Some, None, Option, sym, refl, ap, ◌∙◌, subst, subst₂, not-suc-le-zero, arith}
 use mathlib.Core.Path.{subst₃}
 use native.Mathlib.Decide.{ℕ_discrete}
 use lib.Seq.{take-set-lt}
 use Rattle.std.proofs.lemmas.List.{length-set, length-take, get_or-set_same, get_or-set_other, get_or-take, set-get_or}
+use Rattle.std.proofs.lemmas.Bool.Decides.{nat_tests}
 use Rattle.demand.specs.Demand.{Demand, Lawful}
 use Rattle.demand.specs.Refusals.{first}
 use Rattle.analysis.specs.declared.Task.{Task}
@@ -13,22 +14,19 @@ use Rattle.table.specs.declared.Hold.{Hold}
 use Rattle.table.specs.declared.State.{State}
 use Rattle.table.specs.declared.State.TheVariants.{Free, Held, Kept}
 use Rattle.table.specs.declared.Table.{Table}
-use Rattle.table.specs.Account.{Account, Bears, number_of, hold_checks, bears, unspent, spent, without, AllInTime, with_row, with_kept, with_released, with_withdrawn}
+use Rattle.table.specs.Account.{Account, Bears, number_of, hold_checks, unspent, spent, without, AllInTime, with_row, with_kept, with_released, with_withdrawn}
 use Rattle.table.specs.Agreement.{NoneNamed, Sound, StandsAt, Agrees, AgreesWith}
 use Rattle.table.specs.Memory.{PutAt}
-use Rattle.table.specs.Places.{At, HeldHere}
+use Rattle.table.specs.Places.{Uses, At, HeldHere}
 use Rattle.table.proofs.Kept.{with_row_sound, with_kept_sound, released_sound, with_withdrawn_sound}
-use Rattle.table.proofs.Parts.{bears_other, others_stay}
+use Rattle.table.proofs.Lookups.{tasks, task_at, state_at}
+use Rattle.table.proofs.Parts.{others_stay}
 use Rattle.table.proofs.Shared.{reordered_refl, reordered_back, named_reordered, numbers_reordered, passed, none_named_at, stands_still}
 use Rattle.table.proofs.Spending.{stands, held_at, kept_at, is_kept, is_unspent, spent_gone}
 
-without_it : (n : ℕ) (c : Claim) (cs : List Claim) → number_of c ≡ n → without n (c ∷ cs) ≡ without n cs
-without_it n c cs e = ap (λ b. cond b (without n cs) (c ∷ without n cs)) (eq-eqb (number_of c) n e)
-
 without_none : (n : ℕ) (cs : List Claim) → NoneNamed n cs → without n cs ≡ cs
 without_none n [] h = refl
-without_none n (c ∷ cs) h =
-    ap (λ b. cond b (without n cs) (c ∷ without n cs)) (ne_eqb (number_of c) n h.0) ∙ ap (λ xs. c ∷ xs) (without_none n cs h.1)
+without_none n (c ∷ cs) h = grind (arith, nat_tests, without_none n cs h.1)
 
 without_reordered : (n : ℕ) {xs ys : List Claim} → Reordered xs ys → Reordered (without n xs) (without n ys)
 without_reordered n same = same
@@ -46,14 +44,11 @@ without_reordered n (swapped {a = a} {b = b} {xs = xs}) = go (eqb (number_of a) 
     go false false zs = swapped
 without_reordered n (through r q) = through (without_reordered n r) (without_reordered n q)
 
-bears_it : (table n : ℕ) (h : Bears) → h.table ≡ table → h.row ≡ n → bears table n h ≡ true
-bears_it table n h t r = ap (λ b. b && eqb h.row n) (eq-eqb h.table table t) ∙ eq-eqb h.row n r
-
 unspent_new : (table n : ℕ) (hs : List Bears) → unspent table n (record { table = table; row = n } ∷ hs) ≡ true
-unspent_new table n hs = ap (λ b. b || unspent table n hs) (bears_it table n (record { table = table; row = n }) refl refl)
+unspent_new table n hs = grind (arith, nat_tests)
 
 unspent_more : (table m n : ℕ) → m ≢ n → (hs : List Bears) → unspent table m (record { table = table; row = n } ∷ hs) ≡ unspent table m hs
-unspent_more table m n ne hs = ap (λ b. b || unspent table m hs) (bears_other table m n (record { table = table; row = n }) refl ne)
+unspent_more table m n ne hs = grind (arith, nat_tests)
 
 module _ {K : Type 0} (demand : K → Demand) where
   abbrev pub claim : Task K → Claim
@@ -67,21 +62,18 @@ module _ {K : Type 0} (demand : K → Demand) where
   put_in (None ∷ os) (suc p) u l = put_in os p u (omega arith)
   put_in (Some x ∷ os) (suc p) u l = through (next (put_in os p u (omega arith))) swapped
 
-module _ {K : Type 0} {demand : K → Demand} {a : Account} (t : Table K) (agrees : AgreesWith demand a t) (p : ℕ) (low : p < 12) (within : p < length t.places.now) where
-  abbrev os : List (Option (Task K))
-  os = take 12 t.places.now
-
+module _ {K : Type 0} {demand : K → Demand} {a : Account} (t : Table K) (agrees : AgreesWith demand a t) (p : ℕ) (used : Uses t p) where
   -- the rows of the other places
   abbrev rest : List Claim
-  rest = claims_of demand (set os p None)
+  rest = claims_of demand (set (tasks t) p None)
 
   -- the place is written, where no other has a row of the number n
-  written : (b : Account) (n : ℕ) → b.number ≡ a.number → b.room ≡ a.room → ((m : ℕ) → m ≢ n → unspent b.number m b.holds ≡ unspent a.number m a.holds) → NoneNamed n rest → (s : State) (o : Option (Task K)) → StandsAt b s o → Reordered (claims_of demand (set os p o)) b.rows → Sound b → Agrees demand b t.number (set t.states p s) (set t.places.now p o)
+  written : (b : Account) (n : ℕ) → b.number ≡ a.number → b.room ≡ a.room → ((m : ℕ) → m ≢ n → unspent b.number m b.holds ≡ unspent a.number m a.holds) → NoneNamed n rest → (s : State) (o : Option (Task K)) → StandsAt b s o → Reordered (claims_of demand (set (tasks t) p o)) b.rows → Sound b → Agrees demand b t.number (set t.states p s) (set t.places.now p o)
   written b n number room still apart s o new rows sound = record {
     number_is = number ∙ agrees.number_is;
     states_are = length-set t.states p s ∙ agrees.states_are;
     room_is = room ∙ agrees.room_is ∙ ap (λ k. min k 12) (sym (length-set t.places.now p o));
-    rows_are = rw take-set-lt rows;
+    rows_are = rw (take-set-lt 12 t.places.now p o used.0) rows;
     at_each = each;
     sound = sound;
   }
@@ -90,21 +82,21 @@ module _ {K : Type 0} {demand : K → Demand} {a : Account} (t : Table K) (agree
       each i l = elim (ℕ_discrete i p) [
         | yes e ↦
             subst (λ (j : ℕ). StandsAt b (get_or (set t.states p s) j Free) (get_or (take 12 (set t.places.now p o)) j None)) (sym e)
-            (subst₂ (StandsAt b) (sym (get_or-set_same t.states p s Free (let all = agrees.states_are in omega arith)))
-            (sym (get_or-take 12 (set t.places.now p o) p None low ∙ get_or-set_same t.places.now p o None within)) new)
+            (subst₂ (StandsAt b) (sym (get_or-set_same t.states p s Free (let all = agrees.states_are in let low = used.0 in omega arith)))
+            (sym (get_or-take 12 (set t.places.now p o) p None used.0 ∙ get_or-set_same t.places.now p o None used.1)) new)
         | no ne ↦
             subst₂ (StandsAt b) (sym (get_or-set_other t.states p i s Free ne))
-            (sym (ap (λ xs. get_or xs i None) (take-set-lt 12 t.places.now p o low) ∙ get_or-set_other os p i o None ne))
-            (stands_still a b n still (get_or t.states i Free) (get_or os i None) (λ u e. none_named_at demand n (set os p None) i u apart (get_or-set_other os p i None None ne ∙ e)) (agrees.at_each i l))
+            (sym (ap (λ xs. get_or xs i None) (take-set-lt 12 t.places.now p o used.0) ∙ get_or-set_other (tasks t) p i o None ne))
+            (stands_still a b n still (state_at t i) (task_at t i) (λ u e. none_named_at demand n (set (tasks t) p None) i u apart (get_or-set_other (tasks t) p i None None ne ∙ e)) (agrees.at_each i l))
       ]
 
   -- a row of the number n at the place
-  module _ (u : Task K) (at : get_or os p None ≡ Some u) where
-    there : set os p (Some u) ≡ os
-    there = subst (λ o. set os p o ≡ os) at (set-get_or os p None)
+  module _ (u : Task K) (at : task_at t p ≡ Some u) where
+    there : set (tasks t) p (Some u) ≡ tasks t
+    there = subst (λ o. set (tasks t) p o ≡ tasks t) at (set-get_or (tasks t) p None)
 
     split : Reordered a.rows (claim demand u ∷ rest)
-    split = through (reordered_back agrees.rows_are) (subst (λ xs. Reordered (claims_of demand xs) (claim demand u ∷ rest)) there (put_in demand os p u (let l = length-take 12 t.places.now in omega arith)))
+    split = through (reordered_back agrees.rows_are) (subst (λ xs. Reordered (claims_of demand xs) (claim demand u ∷ rest)) there (put_in demand (tasks t) p u (let l = length-take 12 t.places.now in let w = used in omega arith)))
 
     alone : NoneNamed u.row.number rest
     alone = (numbers_reordered split agrees.sound.numbers).0
@@ -114,27 +106,26 @@ module _ {K : Type 0} {demand : K → Demand} {a : Account} (t : Table K) (agree
     row_out n is hs still sound =
         let apart : NoneNamed n rest = subst (λ m. NoneNamed m rest) (sym is) alone in
         written (record { number = a.number; room = a.room; rows = without n a.rows; holds = hs }) n refl refl still apart Free None tt
-        (reordered_back (subst (Reordered (without n a.rows)) (without_it n (claim demand u) rest (sym is) ∙ without_none n rest apart) (without_reordered n split))) sound
+        (reordered_back (subst (Reordered (without n a.rows)) (let out : without n (claim demand u ∷ rest) ≡ without n rest = grind (arith, nat_tests) in out ∙ without_none n rest apart) (without_reordered n split))) sound
 
 -- a table after a place was written, by what was written
 put_agrees : {K : Type 0} {demand : K → Demand} {b : Account} {t u : Table K} {p : ℕ} {s : State} {o : Option (Task K)} → PutAt t u p s o → Agrees demand b t.number (set t.states p s) (set t.places.now p o) → AgreesWith demand b u
 put_agrees {demand = demand} {b = b} put agrees = subst₃ (Agrees demand b) (sym put.number) (sym put.states) (sym put.places) agrees
 
 nothing_stands : {K : Type 0} (a : Account) (o : Option (Task K)) → StandsAt a Free o → o ≡ None
-nothing_stands a None s = refl
-nothing_stands a (Some u) s = absurd s
+nothing_stands a o s = grind arith
 
 module _ {K : Type 0} {demand : K → Demand} {a : Account} (t : Table K) (agrees : AgreesWith demand a t) where
   -- a row comes in at a free place
   pub row_in : (u : Table K) (p : ℕ) → At t (λ s. s ≡ Free) p → (task : Task K) → PutAt t u p (Held task.row.number) (Some task) → Lawful (demand task.kind) → first (hold_checks a (claim demand task)) ≡ 0 → AllInTime (claim demand task ∷ a.rows) → AgreesWith demand (with_row a (claim demand task)) u
   row_in u p at task put lawful passes in_time =
       let n : ℕ = task.row.number in
-      let empty : set (take 12 t.places.now) p None ≡ take 12 t.places.now = subst (λ o. set (take 12 t.places.now) p o ≡ take 12 t.places.now) (nothing_stands a (get_or (take 12 t.places.now) p None) (stands t agrees Free p at)) (set-get_or (take 12 t.places.now) p None) in
-      let rows : Reordered (claims_of demand (set (take 12 t.places.now) p None)) a.rows = subst (λ xs. Reordered (claims_of demand xs) a.rows) (sym empty) agrees.rows_are in
+      let empty : set (tasks t) p None ≡ tasks t = subst (λ o. set (tasks t) p o ≡ tasks t) (nothing_stands a (task_at t p) (stands t agrees Free p at)) (set-get_or (tasks t) p None) in
+      let rows : Reordered (claims_of demand (set (tasks t) p None)) a.rows = subst (λ xs. Reordered (claims_of demand xs) a.rows) (sym empty) agrees.rows_are in
       put_agrees put
-      (written t agrees p at.0.0 at.0.1 (with_row a (claim demand task)) n refl refl (λ m ne. unspent_more a.number m n ne a.holds)
+      (written t agrees p at.0 (with_row a (claim demand task)) n refl refl (λ m ne. unspent_more a.number m n ne a.holds)
       (named_reordered n (reordered_back rows) (passed a (claim demand task) passes).number) (Held n) (Some task) (refl, unspent_new a.number n a.holds)
-      (through (put_in demand (take 12 t.places.now) p task (let l = length-take 12 t.places.now in let w = at.0 in omega arith)) (next rows))
+      (through (put_in demand (tasks t) p task (let l = length-take 12 t.places.now in let w = at.0 in omega arith)) (next rows))
       (with_row_sound a agrees.sound (claim demand task) lawful passes in_time))
 
   -- the hold of a row that is held here is spent, and the row stays
@@ -145,17 +136,17 @@ module _ {K : Type 0} {demand : K → Demand} {a : Account} (t : Table K) (agree
       let same_places : set t.places.now p (Some it.task) ≡ t.places.now = subst (λ o. set t.places.now p o ≡ t.places.now) is (set-get_or t.places.now p None) in
       let table : h.table ≡ a.number = here.0 ∙ sym agrees.number_is in
       subst (Agrees demand (with_kept a h) t.number (set t.states p (Kept h.row))) same_places
-      (written t agrees p here.1.0.0 here.1.0.1 (with_kept a h) h.row refl refl (λ m ne. others_stay h.table h.row a.number m a.holds ne)
-      (subst (λ m. NoneNamed m (rest t agrees p here.1.0.0 here.1.0.1)) (sym it.number) (alone t agrees p here.1.0.0 here.1.0.1 it.task it.stands)) (Kept h.row) (Some it.task)
+      (written t agrees p here.1.0 (with_kept a h) h.row refl refl (λ m ne. others_stay h.table h.row a.number m a.holds ne)
+      (subst (λ m. NoneNamed m (rest t agrees p here.1.0)) (sym it.number) (alone t agrees p here.1.0 it.task it.stands)) (Kept h.row) (Some it.task)
       (it.number, subst (λ m. unspent m h.row (spent h.table h.row a.holds) ≡ false) table (spent_gone h.table h.row a.holds))
-      (subst (λ xs. Reordered (claims_of demand xs) a.rows) (sym (there t agrees p here.1.0.0 here.1.0.1 it.task it.stands)) agrees.rows_are) (with_kept_sound a agrees.sound h))
+      (subst (λ xs. Reordered (claims_of demand xs) a.rows) (sym (there t agrees p here.1.0 it.task it.stands)) agrees.rows_are) (with_kept_sound a agrees.sound h))
 
   -- the hold of a row that is held here is spent, and the row goes out
   pub row_released : (u : Table K) (h : Hold) (p : ℕ) → HeldHere t h p → PutAt t u p Free None → AgreesWith demand (with_released a h) u
   row_released u h p here put =
       let it = held_at t agrees h.row p here.1 in
       put_agrees put
-      (row_out t agrees p here.1.0.0 here.1.0.1 it.task it.stands h.row it.number (spent h.table h.row a.holds) (λ m ne. others_stay h.table h.row a.number m a.holds ne)
+      (row_out t agrees p here.1.0 it.task it.stands h.row it.number (spent h.table h.row a.holds) (λ m ne. others_stay h.table h.row a.number m a.holds ne)
       (released_sound a agrees.sound h.table h.row (is_unspent t agrees h p here)))
 
   -- a kept row goes out
@@ -163,5 +154,5 @@ module _ {K : Type 0} {demand : K → Demand} {a : Account} (t : Table K) (agree
   row_withdrawn u n p at put =
       let it = kept_at t agrees n p at in
       put_agrees put
-      (row_out t agrees p at.0.0 at.0.1 it.task it.stands n it.number a.holds (λ m ne. refl)
+      (row_out t agrees p at.0 it.task it.stands n it.number a.holds (λ m ne. refl)
       (with_withdrawn_sound a agrees.sound n (is_kept t agrees n p at)))

@@ -1,5 +1,6 @@
 -- How a hold is refused or accepted. Assumes nothing.
-use Rattle.std.proofs.Common.{◌≡◌, ℕ, ◌<◌, ◌≤◌, Bool, true, false, cond, leb, List, [], ◌∷◌, ◌++◌, length, take, is_some, not, None, Some, Err, Option, sym, refl, ap, ◌∙◌, subst, arith, ne_eqb}
+use Rattle.std.proofs.Common.{◌≡◌, ℕ, ◌<◌, ◌≤◌, Bool, true, false, cond, leb, List, [], ◌∷◌, ◌++◌, length, is_some, not, None, Some, Err, Option, sym, refl, ap, ◌∙◌, arith, ne_eqb}
+use Rattle.std.proofs.lemmas.Bool.{cond_both}
 use Rattle.demand.specs.Demand.{Demand}
 use Rattle.analysis.specs.declared.Task.{Task}
 use Rattle.analysis.specs.declared.judgement.JudgeRefusal.{JudgeRefusal}
@@ -15,35 +16,23 @@ use Rattle.table.specs.Agreement.{AgreesWith}
 use Rattle.table.specs.declared.State.TheVariants.{Free}
 use Rattle.table.specs.declared.Table.{Table}
 use Rattle.table.specs.Places.{PlaceWhere}
-use Rattle.table.proofs.Lookups.{place_free}
+use Rattle.table.proofs.Lookups.{tasks, place_free}
 use Rattle.table.proofs.Judgements.{newcomer_late, never_too_many}
-use Rattle.table.proofs.Shared.{Numbered, not_taken, at_least_five}
-
-cond_at_most : (b : Bool) (m n high : ℕ) → m ≤ high → n ≤ high → cond b m n ≤ high
-cond_at_most true m n high h k = h
-cond_at_most false m n high h k = k
+use Rattle.table.proofs.Shared.{Numbered, at_least_five}
 
 first_at_most : (low high : ℕ) (cs : List (Bool × ℕ)) → Numbered low high cs → first cs ≤ high
 first_at_most low high [] n = omega arith
-first_at_most low high (c ∷ cs) n = cond_at_most c.0 c.1 (first cs) high n.0.1 (first_at_most low high cs n.1)
-
--- what differs only where the test is false
-same_where_false : (b : Bool) (n m k : ℕ) → (b ≡ false → m ≡ k) → cond b n m ≡ cond b n k
-same_where_false true n m k e = refl
-same_where_false false n m k e = e refl
+first_at_most low high (c ∷ cs) n = cond_both c.0 c.1 (first cs) (λ m. m ≤ high) (λ _. n.0.1) (λ _. first_at_most low high cs n.1)
 
 -- a check that applies comes before those behind it
 first_front : (cs ds : List (Bool × ℕ)) → 0 < first cs → first (cs ++ ds) ≡ first cs
 first_front [] ds pos = absurd (omega arith)
-first_front (c ∷ cs) ds pos =
-    same_where_false c.0 c.1 (first (cs ++ ds)) (first cs) (λ e. first_front cs ds (subst (λ (b : Bool). 0 < cond b c.1 (first cs)) e pos))
+first_front (c ∷ cs) ds pos = grind (arith, first_front cs ds)
 
 -- where none applies, those behind decide
 first_behind : (low high : ℕ) (cs ds : List (Bool × ℕ)) → 1 ≤ low → Numbered low high cs → first cs ≡ 0 → first (cs ++ ds) ≡ first ds
 first_behind low high [] ds h n z = refl
-first_behind low high (c ∷ cs) ds h n z =
-    let no_check = not_taken c.0 c.1 (first cs) (let l = n.0.0 in omega arith) z in
-    ap (λ (b : Bool). cond b c.1 (first (cs ++ ds))) no_check.0 ∙ first_behind low high cs ds h n.1 no_check.1
+first_behind low high (c ∷ cs) ds h n z = grind (arith, n.0.0, first_behind low high cs ds h n.1)
 
 row_numbered : (a : Account) (c : Claim) → Numbered 5 9 (row_checks a c)
 row_numbered a c =
@@ -83,7 +72,7 @@ module _ {K : Type 0} {demand : K → Demand} {a : Account} (t : Table K) (agree
   passes p some = behind a c (sym early) false (place_free t agrees r place ∙ ap (λ o. not (is_some o)) some)
 
 -- a newcomer that is judged to be late
-pub refused_judged : {K : Type 0} {demand : K → Demand} {a : Account} (t : Table K) → AgreesWith demand a t → (u : Task K) → first (hold_checks a (record { row = u.row; demand = demand u.kind })) ≡ 0 → (j : JudgeRefusal) → Judged (claims demand (take 12 t.places.now) (Some u)) (Err j) → Refused a (record { row = u.row; demand = demand u.kind }) (as_refusal j)
+pub refused_judged : {K : Type 0} {demand : K → Demand} {a : Account} (t : Table K) → AgreesWith demand a t → (u : Task K) → first (hold_checks a (record { row = u.row; demand = demand u.kind })) ≡ 0 → (j : JudgeRefusal) → Judged (claims demand (tasks t) (Some u)) (Err j) → Refused a (record { row = u.row; demand = demand u.kind }) (as_refusal j)
 refused_judged t agrees u z TooMany judged = absurd (never_too_many t agrees u z judged)
 refused_judged {demand = demand} {a = a} t agrees u z (JudgedLate n) judged =
     refused_late a (record { row = u.row; demand = demand u.kind }) n z (newcomer_late t agrees u z n judged)

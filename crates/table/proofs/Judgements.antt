@@ -1,7 +1,8 @@
 -- What the judgement of the rows at the places says of the account. Assumes nothing.
-use Rattle.std.proofs.Common.{◌≡◌, ℕ, zero, suc, ◌<◌, Bool, false, ◌||◌, eqb, ◌≢◌, List, [], ◌∷◌, ◌++◌, length, get_or, take, Some, None, Ok, Err, Option, Result, sym, refl, ap, ◌∙◌, subst, inl, inr, arith, length-take, ne_eqb, eqb-true}
+use Rattle.std.proofs.Common.{◌≡◌, ℕ, zero, suc, ◌<◌, false, eqb, ◌≢◌, List, [], ◌∷◌, ◌++◌, length, get_or, Some, None, Ok, Err, Option, Result, sym, refl, ◌∙◌, subst, inl, inr, arith, length-take, eqb-true}
 use Rattle.std.specs.Option.{ok_or}
-use Rattle.std.proofs.lemmas.Bool.{cases_Bool, eq-eqb}
+use Rattle.std.proofs.lemmas.Bool.Decides.{nat_tests}
+use Rattle.std.proofs.lemmas.Bool.{cases_Bool}
 use Rattle.std.proofs.lemmas.List.{append-nil}
 use Rattle.std.proofs.lemmas.Option.{some_pair_parts}
 use Rattle.demand.specs.Demand.{Demand}
@@ -13,7 +14,7 @@ use Rattle.analysis.specs.declared.Row.{Row}
 use Rattle.analysis.specs.Plans.{Bounds, NoPlan}
 use Rattle.analysis.specs.Ranks.{Claim, Reordered, next, through, ranked, rows, loads_of, loads, at, system, system_of}
 use Rattle.table.specs.declared.Table.{Table}
-use Rattle.table.specs.Account.{Account, number_of, has_number, hold_checks, AllInTime, BoundsAnswered}
+use Rattle.table.specs.Account.{Account, has_number, hold_checks, AllInTime, BoundsAnswered}
 use Rattle.table.specs.declared.BoundRefusal.TheVariants.{NoSuchRow}
 use Rattle.table.specs.Agreement.{AgreesWith}
 use Rattle.table.specs.Places.{answer_of}
@@ -24,15 +25,13 @@ use Rattle.analysis.specs.Judge.{Judged, LateRow, Answered, answers_of, no_answe
 use Rattle.analysis.proofs.AnyOrder.{any_order}
 use Rattle.analysis.proofs.Order.{to_front, highest_first}
 use Rattle.analysis.proofs.Ranked.{claims_append, length_ranked}
-use Rattle.table.proofs.Lookups.{claims_at_most}
+use Rattle.table.proofs.Lookups.{tasks, claims_at_most}
 use Rattle.table.proofs.Shared.{reordered_back, length_reordered, number_reordered, passed, length_ranks, has_plan}
 
 -- where no rank has the number, no row has it
 none_numbered : (n : ℕ) (all : List Row) (cs : List Claim) → ((k : ℕ) → k < length cs → (at (loads_of all cs) k).claim.row.number ≢ n) → has_number n cs ≡ false
 none_numbered n all [] h = refl
-none_numbered n all (c ∷ cs) h =
-    ap (λ (b : Bool). b || has_number n cs) (ne_eqb (number_of c) n (h 0 (omega arith)))
-    ∙ none_numbered n all cs (λ k l. h (suc k) (omega arith))
+none_numbered n all (c ∷ cs) h = grind (arith, nat_tests, h 0, none_numbered n all cs (λ k l. h (suc k) (omega arith)))
 
 -- the answer for the number n is one of the answers
 record AnswerAt (n t v : ℕ) (answers : List Answer) : Type 0 where
@@ -55,53 +54,50 @@ answer_at n t v (x ∷ rest) e = elim (cases_Bool (eqb x.number n)) [
 
 no_answer_at : (n : ℕ) (answers : List Answer) → answer_of n answers ≡ None → (k : ℕ) → k < length answers → (get_or answers k no_answer).number ≢ n
 no_answer_at n [] e k l = omega arith
-no_answer_at n (x ∷ rest) e zero l = λ q. let here = rw (eq-eqb x.number n q) at e in cc
-no_answer_at n (x ∷ rest) e (suc k) l = elim (cases_Bool (eqb x.number n)) [
-  | inl h ↦ let here = rw h at e in cc
-  | inr h ↦ no_answer_at n rest (rw h at e) k (omega arith)
-]
+no_answer_at n (x ∷ rest) e zero l = grind (arith, nat_tests)
+no_answer_at n (x ∷ rest) e (suc k) l = grind (arith, nat_tests, no_answer_at n rest)
 
 module _ {K : Type 0} {demand : K → Demand} {a : Account} (t : Table K) (agrees : AgreesWith demand a t) where
   abbrev pub claim_of_task : Task K → Claim
   claim_of_task u = record { row = u.row; demand = demand u.kind }
 
   -- those at the places are the account's rows
-  same_claims : claims demand (take 12 t.places.now) None ≡ claims_of demand (take 12 t.places.now)
-  same_claims = claims_append demand (take 12 t.places.now) (None ∷ []) ∙ append-nil (claims_of demand (take 12 t.places.now))
+  same_claims : claims demand (tasks t) None ≡ claims_of demand (tasks t)
+  same_claims = claims_append demand (tasks t) (None ∷ []) ∙ append-nil (claims_of demand (tasks t))
 
-  rows_reordered : Reordered a.rows (claims demand (take 12 t.places.now) None)
+  rows_reordered : Reordered a.rows (claims demand (tasks t) None)
   rows_reordered = subst (Reordered a.rows) (sym same_claims) (reordered_back agrees.rows_are)
 
-  same_ranked : ranked (claims demand (take 12 t.places.now) None) ≡ ranked a.rows
-  same_ranked = any_order a.rows (claims demand (take 12 t.places.now) None) rows_reordered agrees.sound.priorities
+  same_ranked : ranked (claims demand (tasks t) None) ≡ ranked a.rows
+  same_ranked = any_order a.rows (claims demand (tasks t) None) rows_reordered agrees.sound.priorities
 
-  newcomer_reordered : (u : Task K) → Reordered (claim_of_task u ∷ a.rows) (claims demand (take 12 t.places.now) (Some u))
+  newcomer_reordered : (u : Task K) → Reordered (claim_of_task u ∷ a.rows) (claims demand (tasks t) (Some u))
   newcomer_reordered u =
-      let front : Reordered (claims_of demand (take 12 t.places.now) ++ claim_of_task u ∷ []) (claim_of_task u ∷ claims_of demand (take 12 t.places.now)) = subst (λ (xs : List Claim). Reordered (claims_of demand (take 12 t.places.now) ++ claim_of_task u ∷ []) (claim_of_task u ∷ xs)) (append-nil (claims_of demand (take 12 t.places.now))) (to_front (claims_of demand (take 12 t.places.now)) (claim_of_task u) []) in
-      subst (Reordered (claim_of_task u ∷ a.rows)) (sym (claims_append demand (take 12 t.places.now) (Some u ∷ [])))
+      let front : Reordered (claims_of demand (tasks t) ++ claim_of_task u ∷ []) (claim_of_task u ∷ claims_of demand (tasks t)) = subst (λ (xs : List Claim). Reordered (claims_of demand (tasks t) ++ claim_of_task u ∷ []) (claim_of_task u ∷ xs)) (append-nil (claims_of demand (tasks t))) (to_front (claims_of demand (tasks t)) (claim_of_task u) []) in
+      subst (Reordered (claim_of_task u ∷ a.rows)) (sym (claims_append demand (tasks t) (Some u ∷ [])))
       (reordered_back (through front (next agrees.rows_are)))
 
-  newcomer_ranked : (u : Task K) → first (hold_checks a (claim_of_task u)) ≡ 0 → ranked (claims demand (take 12 t.places.now) (Some u)) ≡ ranked (claim_of_task u ∷ a.rows)
+  newcomer_ranked : (u : Task K) → first (hold_checks a (claim_of_task u)) ≡ 0 → ranked (claims demand (tasks t) (Some u)) ≡ ranked (claim_of_task u ∷ a.rows)
   newcomer_ranked u passes =
-      any_order (claim_of_task u ∷ a.rows) (claims demand (take 12 t.places.now) (Some u)) (newcomer_reordered u)
+      any_order (claim_of_task u ∷ a.rows) (claims demand (tasks t) (Some u)) (newcomer_reordered u)
       ((passed a (claim_of_task u) passes).priority, agrees.sound.priorities)
 
   -- a newcomer that passes the checks is late or in time with the account's rows as with the table's
-  pub newcomer_late : (u : Task K) → first (hold_checks a (claim_of_task u)) ≡ 0 → (n : ℕ) → Judged (claims demand (take 12 t.places.now) (Some u)) (Err (Late n)) → LateRow (loads (ranked (claim_of_task u ∷ a.rows))) n
+  pub newcomer_late : (u : Task K) → first (hold_checks a (claim_of_task u)) ≡ 0 → (n : ℕ) → Judged (claims demand (tasks t) (Some u)) (Err (Late n)) → LateRow (loads (ranked (claim_of_task u ∷ a.rows))) n
   newcomer_late u passes n judged = subst (λ (cs : List Claim). LateRow (loads cs) n) (newcomer_ranked u passes) judged.first
 
-  pub newcomer_in_time : (u : Task K) → first (hold_checks a (claim_of_task u)) ≡ 0 → (answers : Answers) → Judged (claims demand (take 12 t.places.now) (Some u)) (Ok answers) → AllInTime (claim_of_task u ∷ a.rows)
+  pub newcomer_in_time : (u : Task K) → first (hold_checks a (claim_of_task u)) ≡ 0 → (answers : Answers) → Judged (claims demand (tasks t) (Some u)) (Ok answers) → AllInTime (claim_of_task u ∷ a.rows)
   newcomer_in_time u passes answers judged =
-      let count : length (loads (ranked (claims demand (take 12 t.places.now) (Some u)))) ≡ length (claim_of_task u ∷ a.rows) = length_ranks (claims demand (take 12 t.places.now) (Some u)) ∙ sym (length_reordered (newcomer_reordered u)) in
+      let count : length (loads (ranked (claims demand (tasks t) (Some u)))) ≡ length (claim_of_task u ∷ a.rows) = length_ranks (claims demand (tasks t) (Some u)) ∙ sym (length_reordered (newcomer_reordered u)) in
       record {
         R = bounds_of (answers_of answers);
         V = vectors_of (answers_of answers);
         bounds = subst (λ (n : ℕ). Bounds (system_of (claim_of_task u ∷ a.rows)) n (bounds_of (answers_of answers)) (vectors_of (answers_of answers))) count
-            (subst (λ (cs : List Claim). Bounds (system (loads cs)) (length (loads (ranked (claims demand (take 12 t.places.now) (Some u))))) (bounds_of (answers_of answers)) (vectors_of (answers_of answers))) (newcomer_ranked u passes) judged.answered.bounds);
+            (subst (λ (cs : List Claim). Bounds (system (loads cs)) (length (loads (ranked (claims demand (tasks t) (Some u))))) (bounds_of (answers_of answers)) (vectors_of (answers_of answers))) (newcomer_ranked u passes) judged.answered.bounds);
       }
 
   -- twelve rows at most
-  pub never_too_many : (u : Task K) → first (hold_checks a (claim_of_task u)) ≡ 0 → Judged (claims demand (take 12 t.places.now) (Some u)) (Err TooMany) → ⊥
+  pub never_too_many : (u : Task K) → first (hold_checks a (claim_of_task u)) ≡ 0 → Judged (claims demand (tasks t) (Some u)) (Err TooMany) → ⊥
   never_too_many u passes judged =
       let room = (passed a (claim_of_task u) passes).room in
       let few = agrees.room_is in
@@ -109,10 +105,10 @@ module _ {K : Type 0} {demand : K → Demand} {a : Account} (t : Table K) (agree
       omega arith
 
   -- the account's rows are in time, so they are never refused
-  pub never_refused : (e : JudgeRefusal) → Judged (claims demand (take 12 t.places.now) None) (Err e) → ⊥
+  pub never_refused : (e : JudgeRefusal) → Judged (claims demand (tasks t) None) (Err e) → ⊥
   never_refused TooMany judged =
       let count = length_reordered rows_reordered in
-      let few = claims_at_most demand (take 12 t.places.now) in
+      let few = claims_at_most demand (tasks t) in
       let all = length_reordered agrees.rows_are in
       let twelve = length-take 12 t.places.now in
       omega arith
@@ -121,7 +117,7 @@ module _ {K : Type 0} {demand : K → Demand} {a : Account} (t : Table K) (agree
       (subst (λ (cs : List Claim). NoPlan (system (loads cs))) same_ranked judged.no_plan)
 
   -- all rows are answered
-  pub all_listed : (r : Result Answers JudgeRefusal) → Judged (claims demand (take 12 t.places.now) None) r → (all : Answers) × (r ≡ Ok all) × Answered (loads (ranked a.rows)) (answers_of all)
+  pub all_listed : (r : Result Answers JudgeRefusal) → Judged (claims demand (tasks t) None) r → (all : Answers) × (r ≡ Ok all) × Answered (loads (ranked a.rows)) (answers_of all)
   all_listed (Ok all) judged = (all, refl, subst (λ (cs : List Claim). Answered (loads cs) (answers_of all)) same_ranked judged.answered)
   all_listed (Err e) judged = absurd (never_refused e judged)
 

@@ -16,12 +16,23 @@ use Rattle.analysis.specs.declared.Answer.{Answer}
 use Rattle.analysis.specs.declared.Task.{Task}
 use Rattle.analysis.specs.Candidates.{claims_of}
 use Rattle.table.specs.declared.State.{State}
-use Rattle.table.specs.declared.State.TheVariants.{Free, Held, Kept}
+use Rattle.table.specs.declared.State.TheVariants.{Free}
 use Rattle.table.specs.declared.Table.{Table}
 use Rattle.table.specs.Account.{Account, any_above, has_number, has_priority}
 use Rattle.table.specs.Agreement.{AgreesWith, StandsAt}
 use Rattle.table.specs.Places.{names, answer_of, PlaceWhere}
 use Rattle.table.proofs.Shared.{length_reordered, number_reordered, priority_reordered}
+
+-- the tasks at the places that a table uses
+abbrev pub tasks : {K : Type 0} → Table K → List (Option (Task K))
+tasks t = take 12 t.places.now
+
+-- the task and the state at one of them
+abbrev pub task_at : {K : Type 0} → Table K → ℕ → Option (Task K)
+task_at t i = get_or (tasks t) i None
+
+abbrev pub state_at : {K : Type 0} → Table K → ℕ → State
+state_at t i = get_or t.states i Free
 
 -- what `any` and `find` answer, in the words of the definitions
 pub any_above_is : (own : ℕ) (ns : List ℕ) → list_any (ltb own) ns ≡ any_above own ns
@@ -37,12 +48,7 @@ named n None = false
 named n (Some u) = eqb u.row.number n
 
 names_task : {K : Type 0} (a : Account) (n : ℕ) (s : State) (o : Option (Task K)) → StandsAt a s o → names s n ≡ named n o
-names_task a n Free None h = refl
-names_task a n Free (Some u) h = absurd h
-names_task a n (Held m) None h = absurd h
-names_task a n (Held m) (Some u) h = ap (λ x. eqb x n) h.0
-names_task a n (Kept m) None h = absurd h
-names_task a n (Kept m) (Some u) h = ap (λ x. eqb x n) h.0
+names_task a n s o h = grind arith
 
 not_below : (m n : ℕ) → leb n m ≡ not (ltb m n)
 not_below m n = grind (arith, nat_tests)
@@ -59,8 +65,7 @@ module _ {K : Type 0} (demand : K → Demand) where
 
   -- where the rows have the number n, a task has it
   pub named_more : (n : ℕ) (o : Option (Task K)) (os : List (Option (Task K))) → has_number n (claims_of demand (o ∷ os)) ≡ (named n o || has_number n (claims_of demand os))
-  named_more n None os = refl
-  named_more n (Some u) os = refl
+  named_more n o os = grind arith
 
   -- a place has a row or none
   pub vacant : (os : List (Option (Task K))) → length (filter is_none os) + length (claims_of demand os) ≡ length os
@@ -74,20 +79,20 @@ module _ {K : Type 0} (demand : K → Demand) where
 module _ {K : Type 0} {demand : K → Demand} {a : Account} (t : Table K) (agrees : AgreesWith demand a t) where
   -- A place of whose state P is true is found exactly where F is true of the tasks: where one of them passes the test p,
   -- as it does exactly where P is true of the state.
-  found : (P : State → Type 0) (F : List (Option (Task K)) → Bool) (p : Option (Task K) → Bool) → F [] ≡ false → ((o : Option (Task K)) (os : List (Option (Task K))) → F (o ∷ os) ≡ (p o || F os)) → ((s : State) (o : Option (Task K)) → StandsAt a s o → P s → p o ≡ true) → ((s : State) (o : Option (Task K)) → StandsAt a s o → p o ≡ true → P s) → (r : Option ℕ) → PlaceWhere t P r → is_some r ≡ F (take 12 t.places.now)
-  found P F p none step to from r f = or_is F p none step (take 12 t.places.now) None (is_some r) (there r f) (nowhere r f)
+  found : (P : State → Type 0) (F : List (Option (Task K)) → Bool) (p : Option (Task K) → Bool) → F [] ≡ false → ((o : Option (Task K)) (os : List (Option (Task K))) → F (o ∷ os) ≡ (p o || F os)) → ((s : State) (o : Option (Task K)) → StandsAt a s o → P s → p o ≡ true) → ((s : State) (o : Option (Task K)) → StandsAt a s o → p o ≡ true → P s) → (r : Option ℕ) → PlaceWhere t P r → is_some r ≡ F (tasks t)
+  found P F p none step to from r f = or_is F p none step (tasks t) None (is_some r) (there r f) (nowhere r f)
     where
-      there : (r : Option ℕ) → PlaceWhere t P r → is_some r ≡ true → (i : ℕ) × (i < length (take 12 t.places.now)) × (p (get_or (take 12 t.places.now) i None) ≡ true)
+      there : (r : Option ℕ) → PlaceWhere t P r → is_some r ≡ true → (i : ℕ) × (i < length (tasks t)) × (p (task_at t i) ≡ true)
       there None f e = cc
       there (Some i) f e =
-          (i, let l = length-take 12 t.places.now in omega arith, to (get_or t.states i Free) (get_or (take 12 t.places.now) i None) (agrees.at_each i f.0.0) f.1)
+          (i, let l = length-take 12 t.places.now in omega arith, to (state_at t i) (task_at t i) (agrees.at_each i f.0.0) f.1)
 
-      nowhere : (r : Option ℕ) → PlaceWhere t P r → is_some r ≡ false → (i : ℕ) → i < length (take 12 t.places.now) → p (get_or (take 12 t.places.now) i None) ≡ false
+      nowhere : (r : Option ℕ) → PlaceWhere t P r → is_some r ≡ false → (i : ℕ) → i < length (tasks t) → p (task_at t i) ≡ false
       nowhere (Some k) f e i l = cc
       nowhere None f e i l =
           let all = length-take 12 t.places.now in
           let low : i < 12 = omega arith in
-          false_from_ne_true (p (get_or (take 12 t.places.now) i None)) (λ q. f i ((low, omega arith), from (get_or t.states i Free) (get_or (take 12 t.places.now) i None) (agrees.at_each i low) q))
+          false_from_ne_true (p (task_at t i)) (λ q. f i ((low, omega arith), from (state_at t i) (task_at t i) (agrees.at_each i low) q))
 
   -- a place names the number exactly where the account has such a row
   pub number_found : (n : ℕ) (r : Option ℕ) → PlaceWhere t (λ s. names s n ≡ true) r → is_some r ≡ has_number n a.rows
@@ -95,36 +100,23 @@ module _ {K : Type 0} {demand : K → Demand} {a : Account} (t : Table K) (agree
       found (λ s. names s n ≡ true) (λ os. has_number n (claims_of demand os)) (named n) refl (named_more demand n) (λ s o h e. sym (names_task a n s o h) ∙ e) (λ s o h e. names_task a n s o h ∙ e) r f
       ∙ number_reordered n agrees.rows_are
 
-  pub priority_found : (p : ℕ) → has_priority p (claims_of demand (take 12 t.places.now)) ≡ has_priority p a.rows
+  pub priority_found : (p : ℕ) → has_priority p (claims_of demand (tasks t)) ≡ has_priority p a.rows
   priority_found p = priority_reordered p agrees.rows_are
-
-  none_stands : (s : State) (o : Option (Task K)) → StandsAt a s o → s ≡ Free → is_none o ≡ true
-  none_stands Free None h e = refl
-  none_stands Free (Some u) h e = absurd h
-  none_stands (Held m) o h e = cc
-  none_stands (Kept m) o h e = cc
-
-  free_there : (s : State) (o : Option (Task K)) → StandsAt a s o → is_none o ≡ true → s ≡ Free
-  free_there Free o h e = refl
-  free_there (Held m) None h e = absurd h
-  free_there (Held m) (Some u) h e = cc
-  free_there (Kept m) None h e = absurd h
-  free_there (Kept m) (Some u) h e = cc
 
   -- a place is free exactly where the account has room
   pub place_free : (r : Option ℕ) → PlaceWhere t (λ s. s ≡ Free) r → leb a.room (length a.rows) ≡ not (is_some r)
   place_free r f =
-      let room : length (take 12 t.places.now) ≡ a.room = omega (arith, length-take 12 t.places.now, agrees.room_is) in
+      let room : length (tasks t) ≡ a.room = omega (arith, length-take 12 t.places.now, agrees.room_is) in
       not_below (length a.rows) a.room
-      ∙ ap not (sym (found (λ s. s ≡ Free) (λ os. ltb (length (claims_of demand os)) (length os)) is_none refl step none_stands free_there r f ∙ rw (room, length_reordered agrees.rows_are)))
+      ∙ ap not (sym (found (λ s. s ≡ Free) (λ os. ltb (length (claims_of demand os)) (length os)) is_none refl step (λ s o h e. grind arith) (λ s o h e. grind arith) r f ∙ rw (room, length_reordered agrees.rows_are)))
     where
       step : (o : Option (Task K)) (os : List (Option (Task K))) → ltb (length (claims_of demand (o ∷ os))) (length (o ∷ os)) ≡ (is_none o || ltb (length (claims_of demand os)) (length os))
       step None os = lt-ltb (length (claims_of demand os)) (length (None ∷ os)) (let l = claims_at_most demand os in omega arith)
       step (Some u) os = ltb_suc (length (claims_of demand os)) (length os)
 
   -- as many rows can enter as places are empty
-  pub room_left : length (filter is_none (take 12 t.places.now)) + length a.rows ≡ a.room
-  room_left = omega (arith, vacant demand (take 12 t.places.now), length_reordered agrees.rows_are, length-take 12 t.places.now, agrees.room_is)
+  pub room_left : length (filter is_none (tasks t)) + length a.rows ≡ a.room
+  room_left = omega (arith, vacant demand (tasks t), length_reordered agrees.rows_are, length-take 12 t.places.now, agrees.room_is)
 
 -- what a place gives where its tasks are gone through: its task, if it has one
 pub given_at : {A : Type 0} (s : OptionIter A) (o : Option A) → option_iter_item s ≡ o → option_iter_done s ≡ false → YieldsList option_iter_steps (λ x. x.now) s (option_to_list o)

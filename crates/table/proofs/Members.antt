@@ -1,11 +1,11 @@
 -- The rows and holds of an account are those that the run says. Assumes nothing.
-use Rattle.std.proofs.Common.{◌≡◌, ℕ, List, ◌∷◌, Ok, Err, sym, ap, inl, inr}
+use Rattle.std.proofs.Common.{ℕ, List, ◌∷◌, Ok, Err, sym, arith}
 use Rattle.analysis.specs.Ranks.{Claim}
 use Rattle.table.specs.declared.SpendRefusal.TheVariants.{NotHeld}
 use Rattle.table.specs.declared.WithdrawRefusal.TheVariants.{NoSuchRow, NotKept}
-use Rattle.table.specs.Account.{Account, Bears, fresh, number_of, spent, without}
+use Rattle.table.specs.Account.{Account, Bears, fresh}
 use Rattle.table.specs.Agreement.{Sound}
-use Rattle.table.specs.Runs.{Event, holding, keeping, releasing, withdrawing, bounding, Step, Run, begin, more, TakesIn, TakesOut, Stands, GivesHold, SpendsHold, Unspent, Among}
+use Rattle.table.specs.Runs.{Event, holding, keeping, releasing, withdrawing, bounding, Step, Run, begin, more, Stands, Unspent, Among}
 use Rattle.table.proofs.Parts.{was_there, stays_there, was_unspent, stays_unspent, unspent_own}
 use Rattle.table.proofs.Kept.{sound}
 
@@ -13,98 +13,41 @@ use Rattle.table.proofs.Kept.{sound}
 abbrev Standing : Claim → List Claim → List Event → Type 0
 Standing c cs es = (Among c cs → Stands c es) × (Stands c es → Among c cs)
 
-module _ (c : Claim) (cs : List Claim) (es : List Event) (before : Standing c cs es) (e : Event) where
-  row_in : (d : Claim) → (TakesIn e c → d ≡ c) → (d ≡ c → TakesIn e c) → (TakesOut e (number_of c) → ⊥) → Standing c (d ∷ cs) (e ∷ es)
-  row_in d to from not_out = (there, back)
-    where
-      there : Among c (d ∷ cs) → Stands c (e ∷ es)
-      there (inl x) = inl (from x)
-      there (inr m) = inr (not_out, before.0 m)
-
-      back : Stands c (e ∷ es) → Among c (d ∷ cs)
-      back (inl t) = inl (to t)
-      back (inr p) = inr (before.1 p.1)
-
-  rows_same : (TakesIn e c → ⊥) → (TakesOut e (number_of c) → ⊥) → Standing c cs (e ∷ es)
-  rows_same not_in not_out = (λ m. inr (not_out, before.0 m), back)
-    where
-      back : Stands c (e ∷ es) → Among c cs
-      back (inl t) = absurd (not_in t)
-      back (inr p) = before.1 p.1
-
-  row_out : (n : ℕ) → (TakesIn e c → ⊥) → (TakesOut e (number_of c) → n ≡ number_of c) → (n ≡ number_of c → TakesOut e (number_of c)) → Standing c (without n cs) (e ∷ es)
-  row_out n not_in to from = (there, back)
-    where
-      there : Among c (without n cs) → Stands c (e ∷ es)
-      there m = let p = was_there c n cs m in inr (λ t. p.1 (sym (to t)), before.0 p.0)
-
-      back : Stands c (e ∷ es) → Among c (without n cs)
-      back (inl t) = absurd (not_in t)
-      back (inr p) = stays_there c n cs (λ q. p.0 (from (sym q))) (before.1 p.1)
-
 standing_step : (c : Claim) (a b : Account) (es : List Event) (e : Event) → Step a e b → Standing c a.rows es → Standing c b.rows (e ∷ es)
-standing_step c a b es (holding d (Ok h)) step s = rw step.1.1 (row_in c a.rows es s (holding d (Ok h)) d (λ x. x) (λ x. x) (λ x. x))
-standing_step c a b es (holding d (Err e)) step s = rw step.1.1 (rows_same c a.rows es s (holding d (Err e)) (λ x. x) (λ x. x))
-standing_step c a b es (keeping h (Ok u)) step s = rw step.1 (rows_same c a.rows es s (keeping h (Ok u)) (λ x. x) (λ x. x))
-standing_step c a b es (keeping h (Err (NotHeld back))) step s = rw step.2 (rows_same c a.rows es s (keeping h (Err (NotHeld back))) (λ x. x) (λ x. x))
-standing_step c a b es (releasing h (Ok u)) step s = rw step.1 (row_out c a.rows es s (releasing h (Ok u)) h.row (λ x. x) (λ x. x) (λ x. x))
-standing_step c a b es (releasing h (Err (NotHeld back))) step s = rw step.2 (rows_same c a.rows es s (releasing h (Err (NotHeld back))) (λ x. x) (λ x. x))
-standing_step c a b es (withdrawing n (Ok u)) step s = rw step.2 (row_out c a.rows es s (withdrawing n (Ok u)) n (λ x. x) (λ x. x) (λ x. x))
-standing_step c a b es (withdrawing n (Err NoSuchRow)) step s = rw step.1 (rows_same c a.rows es s (withdrawing n (Err NoSuchRow)) (λ x. x) (λ x. x))
-standing_step c a b es (withdrawing n (Err NotKept)) step s = rw step.2 (rows_same c a.rows es s (withdrawing n (Err NotKept)) (λ x. x) (λ x. x))
-standing_step c a b es (bounding n r) step s = rw step.1 (rows_same c a.rows es s (bounding n r) (λ x. x) (λ x. x))
+standing_step c a b es (holding d (Ok h)) step s = rw step.1.1 (grind (arith, s.0, s.1))
+standing_step c a b es (holding d (Err e)) step s = rw step.1.1 (grind (arith, s.0, s.1))
+standing_step c a b es (keeping h (Ok u)) step s = rw step.1 (grind (arith, s.0, s.1))
+standing_step c a b es (keeping h (Err (NotHeld back))) step s = rw step.2 (grind (arith, s.0, s.1))
+standing_step c a b es (releasing h (Ok u)) step s = rw step.1 (grind (arith, was_there c h.row a.rows, stays_there c h.row a.rows, s.0, s.1))
+standing_step c a b es (releasing h (Err (NotHeld back))) step s = rw step.2 (grind (arith, s.0, s.1))
+standing_step c a b es (withdrawing n (Ok u)) step s = rw step.2 (grind (arith, was_there c n a.rows, stays_there c n a.rows, s.0, s.1))
+standing_step c a b es (withdrawing n (Err NoSuchRow)) step s = rw step.1 (grind (arith, s.0, s.1))
+standing_step c a b es (withdrawing n (Err NotKept)) step s = rw step.2 (grind (arith, s.0, s.1))
+standing_step c a b es (bounding n r) step s = rw step.1 (grind (arith, s.0, s.1))
 
 pub standing : (number room : ℕ) (c : Claim) {es : List Event} {a : Account} → Run (fresh number room) es a → (Among c a.rows → Stands c es) × (Stands c es → Among c a.rows)
 standing number room c begin = (λ x. x, λ x. x)
 standing number room c (more {es = es} {e = e} {a = a} {b = b} run step) = standing_step c a b es e step (standing number room c run)
 
+-- the hold on the row n that the table's number goes with
+abbrev it : Account → ℕ → Bears
+it a n = record { table = a.number; row = n }
+
 -- a hold on the row n is one of these exactly when it was given and not since spent
 abbrev HeldNow : ℕ → Account → List Event → Type 0
-HeldNow n a es = (Among (record { table = a.number; row = n }) a.holds → Unspent n es) × (Unspent n es → Among (record { table = a.number; row = n }) a.holds)
-
-module _ (n : ℕ) (a : Account) (es : List Event) (before : HeldNow n a es) (e : Event) where
-  abbrev it : Bears
-  it = record { table = a.number; row = n }
-
-  hold_in : (m : ℕ) → (GivesHold e n → m ≡ n) → (m ≡ n → GivesHold e n) → (SpendsHold e n → ⊥) → (Among it (record { table = a.number; row = m } ∷ a.holds) → Unspent n (e ∷ es)) × (Unspent n (e ∷ es) → Among it (record { table = a.number; row = m } ∷ a.holds))
-  hold_in m to from not_out = (there, back)
-    where
-      there : Among it (record { table = a.number; row = m } ∷ a.holds) → Unspent n (e ∷ es)
-      there (inl x) = inl (from (ap (λ (y : Bears). y.row) x))
-      there (inr x) = inr (not_out, before.0 x)
-
-      back : Unspent n (e ∷ es) → Among it (record { table = a.number; row = m } ∷ a.holds)
-      back (inl t) = inl (let q : m ≡ n = to t in ap (λ (i : ℕ). record { table = a.number; row = i }) q)
-      back (inr p) = inr (before.1 p.1)
-
-  holds_same : (GivesHold e n → ⊥) → (SpendsHold e n → ⊥) → HeldNow n a (e ∷ es)
-  holds_same not_in not_out = (λ m. inr (not_out, before.0 m), back)
-    where
-      back : Unspent n (e ∷ es) → Among it a.holds
-      back (inl t) = absurd (not_in t)
-      back (inr p) = before.1 p.1
-
-  hold_out : (t m : ℕ) → a.number ≡ t → (GivesHold e n → ⊥) → (SpendsHold e n → m ≡ n) → (m ≡ n → SpendsHold e n) → (Among it (spent t m a.holds) → Unspent n (e ∷ es)) × (Unspent n (e ∷ es) → Among it (spent t m a.holds))
-  hold_out t m own not_in to from = (there, back)
-    where
-      there : Among it (spent t m a.holds) → Unspent n (e ∷ es)
-      there x = let p = was_unspent it t m a.holds own x in inr (λ q. p.1 (sym (to q)), before.0 p.0)
-
-      back : Unspent n (e ∷ es) → Among it (spent t m a.holds)
-      back (inl q) = absurd (not_in q)
-      back (inr p) = stays_unspent it t m a.holds (λ q. p.0 (from (sym q))) (before.1 p.1)
+HeldNow n a es = (Among (it a n) a.holds → Unspent n es) × (Unspent n es → Among (it a n) a.holds)
 
 held_step : (n : ℕ) (a b : Account) (es : List Event) (e : Event) → Sound a → Step a e b → HeldNow n a es → HeldNow n b (e ∷ es)
-held_step n a b es (holding d (Ok h)) s step p = rw step.1.1 (hold_in n a es p (holding d (Ok h)) (number_of d) (λ x. x) (λ x. x) (λ x. x))
-held_step n a b es (holding d (Err e)) s step p = rw step.1.1 (holds_same n a es p (holding d (Err e)) (λ x. x) (λ x. x))
-held_step n a b es (keeping h (Ok u)) s step p = rw step.1 (hold_out n a es p (keeping h (Ok u)) h.table h.row (sym (unspent_own a.number a.rows h.table h.row a.holds s.holds step.0)) (λ x. x) (λ x. x) (λ x. x))
-held_step n a b es (keeping h (Err (NotHeld back))) s step p = rw step.2 (holds_same n a es p (keeping h (Err (NotHeld back))) (λ x. x) (λ x. x))
-held_step n a b es (releasing h (Ok u)) s step p = rw step.1 (hold_out n a es p (releasing h (Ok u)) h.table h.row (sym (unspent_own a.number a.rows h.table h.row a.holds s.holds step.0)) (λ x. x) (λ x. x) (λ x. x))
-held_step n a b es (releasing h (Err (NotHeld back))) s step p = rw step.2 (holds_same n a es p (releasing h (Err (NotHeld back))) (λ x. x) (λ x. x))
-held_step n a b es (withdrawing m (Ok u)) s step p = rw step.2 (holds_same n a es p (withdrawing m (Ok u)) (λ x. x) (λ x. x))
-held_step n a b es (withdrawing m (Err NoSuchRow)) s step p = rw step.1 (holds_same n a es p (withdrawing m (Err NoSuchRow)) (λ x. x) (λ x. x))
-held_step n a b es (withdrawing m (Err NotKept)) s step p = rw step.2 (holds_same n a es p (withdrawing m (Err NotKept)) (λ x. x) (λ x. x))
-held_step n a b es (bounding m r) s step p = rw step.1 (holds_same n a es p (bounding m r) (λ x. x) (λ x. x))
+held_step n a b es (holding d (Ok h)) s step p = rw step.1.1 (grind (arith, p.0, p.1))
+held_step n a b es (holding d (Err e)) s step p = rw step.1.1 (grind (arith, p.0, p.1))
+held_step n a b es (keeping h (Ok u)) s step p = rw step.1 (let own = unspent_own a.number a.rows h.table h.row a.holds s.holds step.0 in grind (arith, was_unspent (it a n) h.table h.row a.holds (sym own), stays_unspent (it a n) h.table h.row a.holds, p.0, p.1))
+held_step n a b es (keeping h (Err (NotHeld back))) s step p = rw step.2 (grind (arith, p.0, p.1))
+held_step n a b es (releasing h (Ok u)) s step p = rw step.1 (let own = unspent_own a.number a.rows h.table h.row a.holds s.holds step.0 in grind (arith, was_unspent (it a n) h.table h.row a.holds (sym own), stays_unspent (it a n) h.table h.row a.holds, p.0, p.1))
+held_step n a b es (releasing h (Err (NotHeld back))) s step p = rw step.2 (grind (arith, p.0, p.1))
+held_step n a b es (withdrawing m (Ok u)) s step p = rw step.2 (grind (arith, p.0, p.1))
+held_step n a b es (withdrawing m (Err NoSuchRow)) s step p = rw step.1 (grind (arith, p.0, p.1))
+held_step n a b es (withdrawing m (Err NotKept)) s step p = rw step.2 (grind (arith, p.0, p.1))
+held_step n a b es (bounding m r) s step p = rw step.1 (grind (arith, p.0, p.1))
 
 pub held_unspent : (number room n : ℕ) {es : List Event} {a : Account} → Run (fresh number room) es a → (Among (record { table = a.number; row = n }) a.holds → Unspent n es) × (Unspent n es → Among (record { table = a.number; row = n }) a.holds)
 held_unspent number room n begin = (λ x. x, λ x. x)

@@ -1,6 +1,5 @@
 -- What every run keeps. Assumes nothing.
-use Rattle.std.proofs.Common.{◌≡◌, ℕ, zero, suc, ◌<◌, Bool, true, false, cond, eqb, List, [], ◌∷◌, length, Ok, Err, Result, sym, refl, ap, ◌∙◌, inl, inr, not-suc-le-zero, arith}
-use Rattle.std.proofs.lemmas.Bool.{eqb-true}
+use Rattle.std.proofs.Common.{◌≡◌, ℕ, zero, suc, ◌<◌, cond, eqb, List, [], ◌∷◌, length, Ok, Err, Result, sym, refl, ap, ◌∙◌, inl, inr, not-suc-le-zero, arith}
 use Rattle.demand.specs.Refusals.{first}
 use Rattle.analysis.specs.declared.Row.{Row}
 use Rattle.analysis.specs.Plans.{NoPlan}
@@ -16,7 +15,7 @@ use Rattle.table.specs.Account.{Account, number_of, hold_number, hold_checks, Bo
 use Rattle.table.specs.Agreement.{Sound, DistinctNumbers}
 use Rattle.table.specs.Runs.{holding, Step, Among, Event, Run, KeptPromise}
 use Rattle.table.proofs.Parts.{none_named, none_among}
-use Rattle.table.proofs.Shared.{named_reordered, numbers_reordered, at_least_five, needs_grow, all_ranks, has_plan}
+use Rattle.table.proofs.Shared.{named_reordered, numbers_reordered, needs_grow, all_ranks, has_plan}
 use Rattle.table.proofs.Kept.{sound}
 use Rattle.table.proofs.Unique.{same_bounds, same_vectors}
 use Rattle.table.proofs.Members.{standing, held_unspent}
@@ -40,11 +39,7 @@ same_answer : (p : ℕ × ℕ) (t v : ℕ) → p.0 ≡ t → p.1 ≡ v → ◌�
 same_answer p t v e f = λ i. Ok (e i, f i)
 
 pub is_late : (e : HoldRefusal) → cond (eqb (hold_number e) 11) 0 (hold_number e) ≡ 0 → hold_number e ≡ 11
-is_late e q = go (eqb (hold_number e) 11) refl q
-  where
-    go : (b : Bool) → eqb (hold_number e) 11 ≡ b → cond b 0 (hold_number e) ≡ 0 → hold_number e ≡ 11
-    go true p z = eqb-true (hold_number e) 11 p
-    go false p z = let h = at_least_five e in absurd (omega arith)
+is_late e q = grind arith
 
 module _ (a : Account) (s : Sound a) where
   bounds_once : (k : ℕ) → k < length a.rows → (r : Result (ℕ × ℕ) BoundRefusal) → BoundsAnswered a (at (loads (ranked a.rows)) k).claim.row.number r → r ≡ Ok (s.in_time.R k, s.in_time.V k)

@@ -15,9 +15,7 @@ use Rattle.analysis.proofs.Lawful.{AllLawful, grows, lawful_loads}
 use Rattle.analysis.proofs.Order.{highest_first, lawful_reordered, reordered_append}
 use Rattle.analysis.proofs.Ranked.{length_ranked}
 use Rattle.table.specs.declared.HoldRefusal.{HoldRefusal}
-use Rattle.table.specs.declared.HoldRefusal.TheVariants.{Number, Priority, Suspension, Deadline, Section, NoPlace, Late}
 use Rattle.table.specs.declared.State.{State}
-use Rattle.table.specs.declared.State.TheVariants.{Free, Held, Kept}
 use Rattle.table.specs.Account.{Account, number_of, has_number, has_priority, no_byte, hold_checks, hold_number, unspent, AllInTime}
 use Rattle.table.specs.Agreement.{NoneNamed, DistinctNumbers, LawfulRows, StandsAt}
 use Rattle.table.proofs.Parts.{all_lawful, none_named, none_at}
@@ -38,9 +36,7 @@ length_reordered swapped = refl
 length_reordered (through r q) = length_reordered r ∙ length_reordered q
 
 or_swap : (x y z : Bool) → (x || (y || z)) ≡ (y || (x || z))
-or_swap true true z = refl
-or_swap true false z = refl
-or_swap false y z = refl
+or_swap x y z = grind arith
 
 -- whether one of these passes a test does not hang on their order
 any_reordered : {A : Type 0} (test : A → Bool) {xs ys : List A} → Reordered xs ys → list_any test xs ≡ list_any test ys
@@ -90,18 +86,10 @@ NoneApplies (c ∷ cs) = (c.0 ≡ false) × NoneApplies cs
 
 none_applies : (low high : ℕ) (cs : List (Bool × ℕ)) → 1 ≤ low → Numbered low high cs → first cs ≡ 0 → NoneApplies cs
 none_applies low high [] h n e = tt
-none_applies low high (c ∷ cs) h n e =
-    let no_check = not_taken c.0 c.1 (first cs) (let l = n.0.0 in omega arith) e in
-    (no_check.0, none_applies low high cs h n.1 no_check.1)
+none_applies low high (c ∷ cs) h n e = grind (arith, n.0.0, none_applies low high cs h n.1)
 
 pub at_least_five : (e : HoldRefusal) → 5 ≤ hold_number e
-at_least_five Number = omega arith
-at_least_five Priority = omega arith
-at_least_five Suspension = omega arith
-at_least_five Deadline = omega arith
-at_least_five Section = omega arith
-at_least_five NoPlace = omega arith
-at_least_five (Late n) = omega arith
+at_least_five e = grind arith
 
 -- The number and the priority of a row that passes are new, and there is room for it. Its number is one byte, and its deadline within its spacing.
 pub record Passed (a : Account) (c : Claim) : Type 0 where
@@ -150,19 +138,10 @@ has_plan cs lawful t no_plan = no_plan t.V t.R (is_plan (system_of cs) (needs_gr
 
 pub none_named_at : {K : Type 0} (demand : K → Demand) (n : ℕ) (os : List (Option (Task K))) (p : ℕ) (u : Task K) → NoneNamed n (claims_of demand os) → get_or os p None ≡ Some u → u.row.number ≢ n
 none_named_at demand n [] p u h e = cc
-none_named_at demand n (None ∷ os) zero u h e = cc
-none_named_at demand n (None ∷ os) (suc p) u h e = none_named_at demand n os p u h e
-none_named_at {K} demand n (Some x ∷ os) zero u h e =
-    let same_task : x ≡ u = cc in
-    subst (λ (y : Task K). y.row.number ≢ n) same_task h.0
-none_named_at demand n (Some x ∷ os) (suc p) u h e = none_named_at demand n os p u h.1 e
+none_named_at demand n (o ∷ os) zero u h e = grind arith
+none_named_at demand n (o ∷ os) (suc p) u h e = grind (arith, none_named_at demand n os p u)
 
 module _ {K : Type 0} (a : Account) where
   -- a row of another number stands as it stood
   pub stands_still : (b : Account) (n : ℕ) → ((m : ℕ) → m ≢ n → unspent b.number m b.holds ≡ unspent a.number m a.holds) → (s : State) (o : Option (Task K)) → ((t : Task K) → o ≡ Some t → t.row.number ≢ n) → StandsAt a s o → StandsAt b s o
-  stands_still b n still Free None other h = tt
-  stands_still b n still Free (Some t) other h = h
-  stands_still b n still (Held m) None other h = h
-  stands_still b n still (Held m) (Some t) other h = (h.0, still m (λ e. other t refl (sym h.0 ∙ e)) ∙ h.1)
-  stands_still b n still (Kept m) None other h = h
-  stands_still b n still (Kept m) (Some t) other h = (h.0, still m (λ e. other t refl (sym h.0 ∙ e)) ∙ h.1)
+  stands_still b n still s o other h = grind arith

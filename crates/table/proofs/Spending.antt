@@ -1,8 +1,9 @@
 -- Holds that are spent and holds that are not, by where they stand in the table. Assumes nothing.
-use Rattle.std.proofs.Common.{◌≡◌, ℕ, ◌<◌, Bool, true, false, ◌&&◌, ◌||◌, eqb, List, [], ◌∷◌, get_or, take, Some, None, Option, Err, Result, sym, refl, ap, ap₂, ◌∙◌, subst, inl, inr, arith}
+use Rattle.std.proofs.Common.{◌≡◌, ℕ, ◌<◌, Bool, true, false, List, [], ◌∷◌, Some, None, Option, Err, Result, sym, refl, ap, ◌∙◌, subst, arith}
 use Rattle.std.proofs.lemmas.List.{length-take}
 use Rattle.std.proofs.lemmas.List.Recursion.{or_from_places}
-use Rattle.std.proofs.lemmas.Bool.{both_ways, eqb-true, eq-eqb, or_cases, or_from, cond_both, false_from_ne_true}
+use Rattle.std.proofs.lemmas.Bool.Decides.{nat_tests}
+use Rattle.std.proofs.lemmas.Bool.{both_ways, eqb-true, false_from_ne_true}
 use Rattle.demand.specs.Demand.{Demand}
 use Rattle.analysis.specs.declared.Task.{Task}
 use Rattle.analysis.specs.Candidates.{claims_of}
@@ -13,44 +14,32 @@ use Rattle.table.specs.declared.SpendRefusal.TheVariants.{NotHeld}
 use Rattle.table.specs.declared.State.{State}
 use Rattle.table.specs.declared.State.TheVariants.{Free, Held, Kept}
 use Rattle.table.specs.declared.Table.{Table}
-use Rattle.table.specs.Account.{Account, Bears, has_number, bears, unspent, held, spent, Spends}
+use Rattle.table.specs.Account.{Account, Bears, has_number, unspent, held, spent, Spends}
 use Rattle.table.specs.Agreement.{AgreesWith, StandsAt, StateOf, OwnHolds}
 use Rattle.table.specs.Places.{names, At, HeldHere}
-use Rattle.table.proofs.Lookups.{named, named_more, number_found}
+use Rattle.table.proofs.Lookups.{tasks, task_at, state_at, named, named_more, number_found}
 use Rattle.table.proofs.Parts.{unspent_own}
 use Rattle.table.proofs.Shared.{number_reordered}
 
 -- all holds are of one table, so its number need not be looked at
 same_held : (table n : ℕ) (cs : List Claim) (hs : List Bears) → OwnHolds table cs hs → held n hs ≡ unspent table n hs
 same_held table n cs [] own = refl
-same_held table n cs (h ∷ hs) own =
-    ap₂ (λ x y. x || y) (sym (ap (λ b. b && eqb h.row n) (eq-eqb h.table table own.0.0))) (same_held table n cs hs own.1)
+same_held table n cs (h ∷ hs) own = grind (arith, nat_tests, same_held table n cs hs own.1)
 
 -- a hold's row is among the rows
 row_of_held : (table n : ℕ) (cs : List Claim) (hs : List Bears) → OwnHolds table cs hs → held n hs ≡ true → has_number n cs ≡ true
 row_of_held table n cs [] own e = cc
-row_of_held table n cs (h ∷ hs) own e = elim (or_cases (eqb h.row n) (held n hs) e) [
-  | inl x ↦ subst (λ (m : ℕ). has_number m cs ≡ true) (eqb-true h.row n x) own.0.1
-  | inr y ↦ row_of_held table n cs hs own.1 y
-]
+row_of_held table n cs (h ∷ hs) own e = grind (arith, nat_tests, row_of_held table n cs hs own.1)
 
 -- after a hold is spent none bears its numbers
 pub spent_gone : (table n : ℕ) (hs : List Bears) → unspent table n (spent table n hs) ≡ false
 spent_gone table n [] = refl
-spent_gone table n (h ∷ hs) =
-    let rest = spent_gone table n hs in
-    cond_both (bears table n h) (spent table n hs) (h ∷ spent table n hs) (λ (xs : List Bears). unspent table n xs ≡ false) (λ e. rest)
-    (λ e. or_from (bears table n h) (unspent table n (spent table n hs)) e rest)
+spent_gone table n (h ∷ hs) = grind (arith, nat_tests, spent_gone table n hs)
 
 module _ {K : Type 0} (a : Account) (n : ℕ) where
   -- where the hold of a task's row is unspent, the row is held
   is_held_there : (s : State) (o : Option (Task K)) → StandsAt a s o → named n o ≡ true → unspent a.number n a.holds ≡ true → s ≡ Held n
-  is_held_there Free None h e u = cc
-  is_held_there Free (Some t) h e u = absurd h
-  is_held_there (Held m) None h e u = absurd h
-  is_held_there (Held m) (Some t) h e u = ap Held (h.0 ∙ eqb-true t.row.number n e)
-  is_held_there (Kept m) None h e u = absurd h
-  is_held_there (Kept m) (Some t) h e u = let same : m ≡ n = h.0 ∙ eqb-true t.row.number n e in cc (h.1)
+  is_held_there s o h e u = grind (arith, nat_tests)
 
 -- the task of a row that is held, or kept: its hold is unspent, or it is not
 pub record TaskAt {K : Type 0} (a : Account) (o : Option (Task K)) (n : ℕ) (b : Bool) : Type 0 where
@@ -69,14 +58,14 @@ at_kept a n (Some u) s = record { task = u; stands = refl; number = s.0; unspent
 
 module _ {K : Type 0} {demand : K → Demand} {a : Account} (t : Table K) (agrees : AgreesWith demand a t) where
   -- what stands at a place of this state
-  pub stands : (s : State) (p : ℕ) → At t (λ x. x ≡ s) p → StandsAt a s (get_or (take 12 t.places.now) p None)
-  stands s p at = subst (λ x. StandsAt a x (get_or (take 12 t.places.now) p None)) at.1 (agrees.at_each p at.0.0)
+  pub stands : (s : State) (p : ℕ) → At t (λ x. x ≡ s) p → StandsAt a s (task_at t p)
+  stands s p at = subst (λ x. StandsAt a x (task_at t p)) at.1 (agrees.at_each p at.0.0)
 
-  pub held_at : (n p : ℕ) → At t (λ s. s ≡ Held n) p → TaskAt a (get_or (take 12 t.places.now) p None) n true
-  held_at n p at = at_held a n (get_or (take 12 t.places.now) p None) (stands (Held n) p at)
+  pub held_at : (n p : ℕ) → At t (λ s. s ≡ Held n) p → TaskAt a (task_at t p) n true
+  held_at n p at = at_held a n (task_at t p) (stands (Held n) p at)
 
-  pub kept_at : (n p : ℕ) → At t (λ s. s ≡ Kept n) p → TaskAt a (get_or (take 12 t.places.now) p None) n false
-  kept_at n p at = at_kept a n (get_or (take 12 t.places.now) p None) (stands (Kept n) p at)
+  pub kept_at : (n p : ℕ) → At t (λ s. s ≡ Kept n) p → TaskAt a (task_at t p) n false
+  kept_at n p at = at_kept a n (task_at t p) (stands (Kept n) p at)
 
   pub is_held : (n p : ℕ) → At t (λ s. s ≡ Held n) p → held n a.holds ≡ true
   is_held n p at = same_held a.number n a.rows a.holds agrees.sound.holds ∙ (held_at n p at).unspent_is
@@ -88,10 +77,10 @@ module _ {K : Type 0} {demand : K → Demand} {a : Account} (t : Table K) (agree
   has_row n p at = sym (number_found t agrees n (Some p) at)
 
   -- what the account says of a row is the state at its place
-  pub state_is : (n p : ℕ) → At t (λ s. names s n ≡ true) p → StateOf a n (get_or t.states p Free)
-  state_is n p at = go (get_or t.states p Free) refl at.1
+  pub state_is : (n p : ℕ) → At t (λ s. names s n ≡ true) p → StateOf a n (state_at t p)
+  state_is n p at = go (state_at t p) refl at.1
     where
-      go : (s : State) → get_or t.states p Free ≡ s → names s n ≡ true → StateOf a n s
+      go : (s : State) → state_at t p ≡ s → names s n ≡ true → StateOf a n s
       go Free e named = cc
       go (Held m) e named = let same : m ≡ n = eqb-true m n named in (same, has_row n p at, is_held n p (at.0, e ∙ ap Held same))
       go (Kept m) e named = let same : m ≡ n = eqb-true m n named in (same, has_row n p at, is_kept n p (at.0, e ∙ ap Kept same))
@@ -101,7 +90,7 @@ module _ {K : Type 0} {demand : K → Demand} {a : Account} (t : Table K) (agree
   is_unspent h p here = rw (here.0, ← agrees.number_is) (held_at h.row p here.1).unspent_is
 
   is_spent : (h : Hold) → ((p : ℕ) → HeldHere t h p → ⊥) → unspent h.table h.row a.holds ≡ false
-  is_spent h away = false_from_ne_true (unspent h.table h.row a.holds) (λ e. both_ways (has_number h.row (claims_of demand (take 12 t.places.now))) (gone e) (there e))
+  is_spent h away = false_from_ne_true (unspent h.table h.row a.holds) (λ e. both_ways (has_number h.row (claims_of demand (tasks t))) (gone e) (there e))
     where
       own : unspent h.table h.row a.holds ≡ true → h.table ≡ a.number
       own e = unspent_own a.number a.rows h.table h.row a.holds agrees.sound.holds e
@@ -109,19 +98,19 @@ module _ {K : Type 0} {demand : K → Demand} {a : Account} (t : Table K) (agree
       ours : unspent h.table h.row a.holds ≡ true → unspent a.number h.row a.holds ≡ true
       ours e = subst (λ (m : ℕ). unspent m h.row a.holds ≡ true) (own e) e
 
-      there : unspent h.table h.row a.holds ≡ true → has_number h.row (claims_of demand (take 12 t.places.now)) ≡ true
+      there : unspent h.table h.row a.holds ≡ true → has_number h.row (claims_of demand (tasks t)) ≡ true
       there e =
           number_reordered h.row agrees.rows_are
           ∙ row_of_held a.number h.row a.rows a.holds agrees.sound.holds (same_held a.number h.row a.rows a.holds agrees.sound.holds ∙ ours e)
 
-      gone : unspent h.table h.row a.holds ≡ true → has_number h.row (claims_of demand (take 12 t.places.now)) ≡ false
+      gone : unspent h.table h.row a.holds ≡ true → has_number h.row (claims_of demand (tasks t)) ≡ false
       gone e =
-          or_from_places (λ os. has_number h.row (claims_of demand os)) (named h.row) refl (named_more demand h.row) (take 12 t.places.now) None
+          or_from_places (λ os. has_number h.row (claims_of demand os)) (named h.row) refl (named_more demand h.row) (tasks t) None
           (λ i l.
           let all = length-take 12 t.places.now in
           let low : i < 12 = omega arith in
-          false_from_ne_true (named h.row (get_or (take 12 t.places.now) i None))
-          (λ q. away i (own e ∙ agrees.number_is, ((low, omega arith), is_held_there a h.row (get_or t.states i Free) (get_or (take 12 t.places.now) i None) (agrees.at_each i low) q (ours e)))))
+          false_from_ne_true (named h.row (task_at t i))
+          (λ q. away i (own e ∙ agrees.number_is, ((low, omega arith), is_held_there a h.row (state_at t i) (task_at t i) (agrees.at_each i low) q (ours e)))))
 
   -- a hold whose row is not held here comes back, and the account is as it was
   pub comes_back : (h : Hold) (after : Account) (r : Result (Unit {0}) SpendRefusal) → r ≡ Err (NotHeld h) → ((p : ℕ) → HeldHere t h p → ⊥) → (b : Account) × Spends a h after r b × AgreesWith demand b t

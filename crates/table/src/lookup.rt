@@ -49,7 +49,7 @@ impl<'a, K: Kind + Drop> Table<'a, K> {
         &self.states[..self.used().len()]
     }
 
-    // The place of the row with this number.
+    // The first place that names this number.
     pub(crate) fn place_of(&self, number: u32) -> Option<usize>
         ensures { PlaceWhere self.now (λ s. names s number ≡ true) result }
     {
@@ -58,19 +58,21 @@ impl<'a, K: Kind + Drop> Table<'a, K> {
             .position(|state| state.names(number))
     }
 
-    // The first place in this state.
+    // The first place that is in this state.
     pub(crate) fn place_in(&self, state: State) -> Option<usize>
         ensures { PlaceWhere self.now (λ s. s ≡ state) result }
     {
         self.used_states().iter().position(|at| *at == state)
     }
 
+    // Whether a row has this number.
     pub(crate) fn has_number(&self, number: u32) -> bool
         ensures { (a : Account) → AgreesWith K.demand a self.now → result ≡ has_number number a.rows }
     {
         self.place_of(number).is_some()
     }
 
+    // Whether a row has this priority.
     pub(crate) fn has_priority(&self, priority: u32) -> bool
         ensures { (a : Account) → AgreesWith K.demand a self.now → result ≡ has_priority priority a.rows }
     {
