@@ -70,7 +70,7 @@ module _ (n : ℕ) (f : List ℕ) (k a : ℕ) (digits : all_digits (take k f) �
       let parts : f ≡ take k f ++ x.now ∷ drop (k + 1) f = sym (take-append-drop k f) ∙ (ap (λ t. take k f ++ t) (drop_more f k x.now lt) ∙ ap (λ b. take k f ++ b ∷ drop (k + 1) f) (sym is)) in
       rw stop.0 (not_pushed x.now (drop (k + 1) f) parts stop.1)
 
-number_from : (f : List ℕ) → 0 < length f → all_digits f ≡ true → value f ≤ 4_294_967_295 → is_number f ≡ true
+pub number_from : (f : List ℕ) → 0 < length f → all_digits f ≡ true → value f ≤ 4_294_967_295 → is_number f ≡ true
 number_from f some digits small = and_from _ _ (lt-ltb 0 (length f) some) (and_from _ _ digits (le-leb _ _ small))
 
 -- what reading answers for a field

@@ -1,20 +1,16 @@
 -- What the lines of a written plan file are. Assumes nothing.
-use Rattle.std.proofs.Common.{◌≡◌, ℕ, ◌<◌, ◌≤◌, true, false, not, ◌&&◌, ltb, leb, List, [], ◌∷◌, ◌++◌, map, length, codes, decimal, sym, refl, ap, ◌∙◌, arith, rules}
+use Rattle.std.proofs.Common.{◌≡◌, ℕ, ◌<◌, ◌≤◌, true, false, not, leb, List, [], ◌∷◌, ◌++◌, map, length, codes, decimal, sym, refl, ap, ◌∙◌, arith}
 use Rattle.std.proofs.lemmas.Fmt.{digits_decimal, digits_value-decimal, decimal_nonempty, length-decimal-le}
 use Rattle.std.proofs.lemmas.List.{append_assoc, length-append, length-map}
-use Rattle.std.proofs.lemmas.Str.Parse.{IsNumeralModel, numerals_by_fold}
-use Rattle.std.proofs.lemmas.Bool.{and_parts, and_from, leb-true, lt-ltb, le-leb, ne_eqb, not_from_true}
+use Rattle.std.proofs.lemmas.Bool.{and_parts, leb-true, ne_eqb, not_from_true}
 use Rattle.demand.specs.declared.speed.Factor.{Factor}
 use Rattle.either.specs.declared.Either.TheVariants.{Left, Right}
 use Rattle.planfile.specs.Checks.{Jobs, Entry}
-use Rattle.planfile.specs.Text.{newline, tab, is_digit, all_digits, value_after, value, is_number}
+use Rattle.planfile.specs.Text.{newline, tab, is_digit, all_digits, value, is_number}
 use Rattle.planfile.specs.Report.{number_fields}
 use Rattle.planfile.specs.Laws.{jobs_text, numbers_of, row_text, rows_text, clock_text, plan_text, AllFit, jobs_numbers, Writable}
+use Rattle.planfile.proofs.Numbers.{own, number_from}
 use Rattle.planfile.proofs.Joined.{Lacks, Part, Parts, parts_append, tabbed, tabbed_append, with_newlines}
-
--- the digits of a file are decimal digits, and their value is what they write
-own : IsNumeralModel (λ ds. all_digits ds ≡ true) value
-own = numerals_by_fold _ (search rules) value_after (search rules)
 
 digits_lack : (separator : ℕ) → separator < 48 → (ds : List ℕ) → all_digits ds ≡ true → Lacks separator ds
 digits_lack separator low [] h = tt
@@ -39,9 +35,7 @@ module _ (n : ℕ) (fits : n ≤ 4_294_967_295) where
   pub number_passes : not (is_number (decimal n)) ≡ false
   number_passes =
       let same = reads in
-      not_from_true (is_number (decimal n))
-      (and_from (ltb 0 (length (decimal n))) (all_digits (decimal n) && leb (value (decimal n)) 4_294_967_295) (lt-ltb 0 (length (decimal n)) (decimal_nonempty n (omega arith)))
-      (and_from (all_digits (decimal n)) (leb (value (decimal n)) 4_294_967_295) (digits_decimal own n (omega arith)) (le-leb (value (decimal n)) 4_294_967_295 (omega arith))))
+      not_from_true (is_number (decimal n)) (number_from (decimal n) (decimal_nonempty n (omega arith)) (digits_decimal own n (omega arith)) (omega arith))
 
 pub decimal_parts : (ns : List ℕ) → AllFit ns → Parts (map decimal ns)
 decimal_parts [] h = tt

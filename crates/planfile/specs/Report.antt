@@ -1,6 +1,7 @@
 -- The texts that are written, and what memory holds then. Assumes nothing.
 use Rattle.std.specs.Prelude.{◌≡◌, ℕ, ◌+◌, ◌<◌, ◌≤◌, List, [], ◌∷◌, ◌++◌, length, take, drop, Ok, Err, codes, decimal, Result}
 use Rattle.analysis.specs.declared.Answer.{Answer}
+use Rattle.arrayvec.specs.ArrayString.{ArrayString, array_string_len}
 use Rattle.planfile.specs.declared.fault.Fault.{Fault}
 use Rattle.planfile.specs.declared.fault.Fault.TheVariants.{ReportMemory}
 use Rattle.planfile.specs.declared.fault.Blame.{Blame}
@@ -31,6 +32,14 @@ report (a ∷ rest) = report_line a ++ report rest
 -- the line of a refusal: line, field, number, late row
 abbrev pub refusal_line : Blame → List ℕ
 refusal_line b = line_of (codes "refused") (b.line ∷ b.field ∷ b.number ∷ b.late ∷ [])
+
+-- there is room for more bytes behind a text that is composed
+abbrev pub HasRoom : ArrayString → List ℕ → Type 0
+HasRoom text bytes = array_string_len text + length bytes ≤ 512
+
+-- bytes were appended to a text
+abbrev pub Appended : ArrayString → List ℕ → ArrayString → Type 0
+Appended before bytes after = after.bytes ≡ before.bytes ++ bytes
 
 -- memory after a text was written at a place of it: what stood before and behind is as it was
 abbrev pub WrittenAt : List ℕ → ℕ → List ℕ → List ℕ → Type 0

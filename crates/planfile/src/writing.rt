@@ -1,8 +1,8 @@
 // The texts that are written into lent memory.
-ghost use Rattle.std.specs.Prelude.{◌≡◌, ◌+◌, ◌<◌, ◌≤◌, ◌++◌, length};
+ghost use Rattle.std.specs.Prelude.{◌≡◌, ◌≤◌, length};
 ghost use Rattle.arrayvec.specs.ArrayString.{array_string_len};
 ghost use Rattle.planfile.specs.Fault.{blame};
-ghost use Rattle.planfile.specs.Report.{number_field, line_of, report_line, report, Wrote, RefusalWritten};
+ghost use Rattle.planfile.specs.Report.{HasRoom, Appended, number_field, line_of, report_line, report, Wrote, RefusalWritten};
 
 use super::{Fault, REPORT_MEMORY};
 use analysis::Answer;
@@ -14,8 +14,8 @@ type Text = ArrayString<REPORT_MEMORY>;
 
 // Appends a tab and a number.
 fn push_number(text: &mut Text, number: u64)
-    requires { array_string_len text.old + length (number_field number) ≤ 512 }
-    ensures { text.new.bytes ≡ text.old.bytes ++ number_field number }
+    requires { HasRoom text.old (number_field number) }
+    ensures { Appended text.old (number_field number) text.new }
 {
     text.push_str("\t");
     text.push_str(Buffer::new().format(number));
@@ -23,8 +23,8 @@ fn push_number(text: &mut Text, number: u64)
 
 // Appends a line of a word and numbers.
 fn push_line(text: &mut Text, word: &str, numbers: &[u64])
-    requires { array_string_len text.old + length (line_of word.now numbers.now) ≤ 512 }
-    ensures { text.new.bytes ≡ text.old.bytes ++ line_of word.now numbers.now }
+    requires { HasRoom text.old (line_of word.now numbers.now) }
+    ensures { Appended text.old (line_of word.now numbers.now) text.new }
 {
     text.push_str(word);
     for number in numbers {
@@ -35,8 +35,8 @@ fn push_line(text: &mut Text, word: &str, numbers: &[u64])
 
 // Appends the line of a row.
 fn push_row(text: &mut Text, answer: &Answer)
-    requires { array_string_len text.old + length (report_line answer.now) ≤ 512 }
-    ensures { text.new.bytes ≡ text.old.bytes ++ report_line answer.now }
+    requires { HasRoom text.old (report_line answer.now) }
+    ensures { Appended text.old (report_line answer.now) text.new }
 {
     let number = u64::from(answer.number);
     let bound = u64::from(answer.bound);
