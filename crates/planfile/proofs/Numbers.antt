@@ -7,7 +7,7 @@ use Rattle.std.proofs.lemmas.Iterator.{YieldsList}
 use Rattle.std.proofs.lemmas.Iterator.Consumers.{YieldsList-so_far, YieldsList-turn, YieldsList-end}
 use Rattle.std.proofs.lemmas.List.{take-append-drop, take_all, drop_more}
 use Rattle.std.proofs.lemmas.Str.Parse.{IsNumeralModel, numerals_by_fold}
-use Rattle.std.proofs.lemmas.Bool.{and_from, and_left, and_right, and_parts, le-ltb, lt-leb, ltb-true, leb-true, lt-ltb, le-leb}
+use Rattle.std.proofs.lemmas.Bool.{both_ways, and_from, and_left, and_right, and_parts, le-ltb, lt-leb, ltb-true, leb-true, lt-ltb, le-leb}
 use Rattle.std.specs.Option.{ok_or}
 use Rattle.planfile.specs.declared.fault.FieldFault.{FieldFault}
 use Rattle.planfile.specs.declared.fault.FieldFault.TheVariants.{NotNumber}
@@ -100,6 +100,14 @@ some_digit n small = decimal_nonempty n (omega arith)
 -- its digits are digits, and write it
 pub written_value : (f : List ℕ) (n : ℕ) → f ≡ decimal n → n < 2 ^ 32 → (value_after 0 f ≡ n) × (all_digits f ≡ true)
 written_value f n e small = (ap value e ∙ digits_value-decimal own n (omega arith), ap all_digits e ∙ digits_decimal own n (omega arith))
+
+-- what is written of a number reads back as it
+pub reads_written : (f : List ℕ) (r : Result ℕ FieldFault) → Read f r → (n : ℕ) → n < 2 ^ 32 → f ≡ decimal n → r ≡ Ok n
+reads_written f (Ok m) (p, q) n small e = ap Ok (q ∙ (written_value f n e small).0)
+reads_written f (Err x) p n small e =
+    let it = written_value f n e small in
+    let some : 0 < length f = subst (λ bs. 0 < length bs) (sym e) (some_digit n small) in
+    absurd (both_ways (is_number f) p (number_from f some it.1 (omega (arith, it.0))))
 
 -- a number without leading zeros is what is written of its value
 pub writes_read : (f : List ℕ) (r : Result ℕ FieldFault) → Read f r → IfOk r (λ n. (get_or f 0 0 ≡ 48 → length f ≡ 1) → decimal n ≡ f)
