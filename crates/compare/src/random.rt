@@ -32,9 +32,9 @@ impl Random {
         ((twice >> 32) & 0xffff_ffff) as u32
     }
 
-    // A number below `end`; 0 where there is none. One function with `place` would have to cast each time.
+    // A number below `end`; 0 where there is none.
     pub(crate) fn below(&mut self, end: u32) -> u32 {
-        self.draw().checked_rem(end).unwrap_or(0)
+        self.place(end as usize) as u32
     }
 
     // A number from `low` to `high`.
