@@ -6,7 +6,8 @@ use super::MOST_ROWS;
 use arrayvec::ArrayVec;
 use demand::Kind;
 
-// A row as a lower row meets it: its kind, how long it waits, and its jitter, which is its bound less its least job.
+// A row as a lower row meets it: its kind, how long it waits, and its jitter, which is its bound less its least job. A place
+// may have no task, and then there is no kind, which needs nothing; the definitions say so too (`idle`).
 #[derive_where(Clone, Copy, Default)]
 pub(crate) struct Higher<'a, K> {
     pub(crate) kind: Option<&'a K>,

@@ -46,7 +46,7 @@ pub struct Task<K> {
 }
 
 // A row where it stands among ranked rows, and the place that it was found at. The place is a number and not a reference to
-// the task, since a rank is passed to `ceilings_of` by callers that have rows and no kinds.
+// the task: ceilings and blocking go by rows alone, for callers too, and ranks with kinds would have to be listed twice.
 #[derive(Clone, Copy, Default)]
 pub struct Rank {
     pub row: Row,

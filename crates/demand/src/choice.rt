@@ -3,7 +3,8 @@ ghost use Rattle.demand.specs.Made.{either_demand};
 ghost use Rattle.demand.specs.Laws.{either_lawful};
 
 use super::Kind;
-use either::{Either, for_both};
+pub use either::Either;
+use either::for_both;
 
 impl<A: Kind, B: Kind> Kind for Either<A, B> {
     ghost demand = { either_demand A.Kind.demand B.Kind.demand };

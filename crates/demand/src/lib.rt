@@ -14,7 +14,8 @@ pub mod speed;
 #[cfg(test)]
 mod tests;
 
-pub use either::{Either, Left, Right};
+pub use choice::Either;
+pub use either::{Left, Right};
 pub use jitter::Delayed;
 pub use pattern::Heavy;
 pub use periodic::Every;

@@ -52,7 +52,8 @@ impl Factor {
         up_to_cap(rounded_up(product, u64::from(counted.denominator)))
     }
 
-    // n times the factor, rounded down. One function for both would be passed the division, and be no plainer.
+    // n times the factor, rounded down. One function with `times_up` would be passed the division, and its contract would be
+    // one over closures: no plainer.
     fn times_down(self, n: u32) -> u32
         ensures { result ≡ times_down (numerator_of self.numerator self.denominator) (denominator_of self.denominator) n }
     {
@@ -70,6 +71,7 @@ pub struct Slowed<K> {
 }
 
 impl<K: Kind + Drop> Slowed<K> {
+    // The two numbers come apart, as those of a kind do, and are a factor from here on.
     pub fn new(kind: K, numerator: u32, denominator: u32) -> Result<Slowed<K>, KindRefusal>
         ensures refusal { answer_number result ≡ first (slowed_checks numerator denominator) }
         ensures fields { IfOk result (λ k. (k.kind ≡ kind) × (k.factor.numerator ≡ numerator) × (k.factor.denominator ≡ denominator)) }

@@ -17,9 +17,9 @@ use Rattle.table.specs.declared.Table.{Table}
 use Rattle.table.specs.Account.{Account, Bears, number_of, hold_checks, unspent, spent, without, AllInTime, with_row, with_kept, with_released, with_withdrawn}
 use Rattle.table.specs.Agreement.{NoneNamed, Sound, StandsAt, Agrees, AgreesWith}
 use Rattle.table.specs.Memory.{PutAt}
-use Rattle.table.specs.Places.{Uses, At, HeldHere}
+use Rattle.table.specs.Places.{Uses, At}
 use Rattle.table.proofs.Kept.{with_row_sound, with_kept_sound, released_sound, with_withdrawn_sound}
-use Rattle.table.proofs.Lookups.{tasks, task_at, state_at}
+use Rattle.table.proofs.Lookups.{tasks, task_at, state_at, AtLow, within}
 use Rattle.table.proofs.Parts.{others_stay}
 use Rattle.table.proofs.Shared.{reordered_refl, reordered_back, named_reordered, numbers_reordered, passed, none_named_at, stands_still}
 use Rattle.table.proofs.Spending.{stands, held_at, kept_at, is_spent, still_ours, spent_gone}
@@ -120,7 +120,7 @@ module _ {K : Type 0} {demand : K → Demand} {a : Account} (t : Table K) (agree
   pub row_in : (u : Table K) (p : ℕ) → At t (λ s. s ≡ Free) p → (task : Task K) → PutAt t u p (Held task.row.number) (Some task) → Lawful (demand task.kind) → first (hold_checks a (claim demand task)) ≡ 0 → AllInTime (claim demand task ∷ a.rows) → AgreesWith demand (with_row a (claim demand task)) u
   row_in u p at task put lawful passes in_time =
       let n : ℕ = task.row.number in
-      let empty : set (tasks t) p None ≡ tasks t = subst (λ o. set (tasks t) p o ≡ tasks t) (nothing_stands a (task_at t p) (stands t agrees Free p at)) (set-get_or (tasks t) p None) in
+      let empty : set (tasks t) p None ≡ tasks t = subst (λ o. set (tasks t) p o ≡ tasks t) (nothing_stands a (task_at t p) (stands t agrees Free p (at.0.0, at.1))) (set-get_or (tasks t) p None) in
       let rows : Reordered (claims_of demand (set (tasks t) p None)) a.rows = subst (λ xs. Reordered (claims_of demand xs) a.rows) (sym empty) agrees.rows_are in
       put_agrees put
       (written t agrees p at.0 (with_row a (claim demand task)) n refl refl (λ m ne. unspent_more a.number m n ne a.holds)
@@ -129,30 +129,32 @@ module _ {K : Type 0} {demand : K → Demand} {a : Account} (t : Table K) (agree
       (with_row_sound a agrees.sound (claim demand task) lawful passes in_time))
 
   -- the hold of a row that is held here is spent, and the row stays
-  pub row_kept : (h : Hold) (p : ℕ) → HeldHere t h p → Agrees demand (with_kept a h) t.number (set t.states p (Kept h.row)) t.places.now
-  row_kept h p here =
-      let it = held_at t agrees h.row p here.1 in
-      let is : get_or t.places.now p None ≡ Some it.task = sym (get_or-take 12 t.places.now p None here.1.0.0) ∙ it.stands in
+  pub row_kept : (h : Hold) (p : ℕ) → h.table ≡ t.number → AtLow t (λ s. s ≡ Held h.row) p → Agrees demand (with_kept a h) t.number (set t.states p (Kept h.row)) t.places.now
+  row_kept h p ours at =
+      let it = held_at t agrees h.row p at in
+      let used : Uses t p = (at.0, within t p it.task it.stands) in
+      let is : get_or t.places.now p None ≡ Some it.task = sym (get_or-take 12 t.places.now p None at.0) ∙ it.stands in
       let same_places : set t.places.now p (Some it.task) ≡ t.places.now = subst (λ o. set t.places.now p o ≡ t.places.now) is (set-get_or t.places.now p None) in
-      let table : h.table ≡ a.number = here.0 ∙ sym agrees.number_is in
+      let table : h.table ≡ a.number = ours ∙ sym agrees.number_is in
       subst (Agrees demand (with_kept a h) t.number (set t.states p (Kept h.row))) same_places
-      (written t agrees p here.1.0 (with_kept a h) h.row refl refl (λ m ne. others_stay h.table h.row a.number m a.holds ne)
-      (subst (λ m. NoneNamed m (rest t agrees p here.1.0)) (sym it.number) (alone t agrees p here.1.0 it.task it.stands)) (Kept h.row) (Some it.task)
+      (written t agrees p used (with_kept a h) h.row refl refl (λ m ne. others_stay h.table h.row a.number m a.holds ne)
+      (subst (λ m. NoneNamed m (rest t agrees p used)) (sym it.number) (alone t agrees p used it.task it.stands)) (Kept h.row) (Some it.task)
       (it.number, subst (λ m. unspent m h.row (spent h.table h.row a.holds) ≡ false) table (spent_gone h.table h.row a.holds))
-      (subst (λ xs. Reordered (claims_of demand xs) a.rows) (sym (there t agrees p here.1.0 it.task it.stands)) agrees.rows_are) (with_kept_sound a agrees.sound h))
+      (subst (λ xs. Reordered (claims_of demand xs) a.rows) (sym (there t agrees p used it.task it.stands)) agrees.rows_are) (with_kept_sound a agrees.sound h))
 
   -- the hold of a row that is held here is spent, and the row goes out
-  pub row_released : (u : Table K) (h : Hold) (p : ℕ) → HeldHere t h p → PutAt t u p Free None → AgreesWith demand (with_released a h) u
-  row_released u h p here put =
-      let it = held_at t agrees h.row p here.1 in
+  pub row_released : (u : Table K) (h : Hold) (p : ℕ) → h.table ≡ t.number → AtLow t (λ s. s ≡ Held h.row) p → PutAt t u p Free None → AgreesWith demand (with_released a h) u
+  row_released u h p ours at put =
+      let it = held_at t agrees h.row p at in
+      let used : Uses t p = (at.0, within t p it.task it.stands) in
       put_agrees put
-      (row_out t agrees p here.1.0 it.task it.stands h.row it.number (spent h.table h.row a.holds) (λ m ne. others_stay h.table h.row a.number m a.holds ne)
-      (released_sound a agrees.sound h.table h.row (still_ours t agrees h p here)))
+      (row_out t agrees p used it.task it.stands h.row it.number (spent h.table h.row a.holds) (λ m ne. others_stay h.table h.row a.number m a.holds ne)
+      (released_sound a agrees.sound h.table h.row (still_ours t agrees h p (ours, (used, at.1)))))
 
   -- a kept row goes out
-  pub row_withdrawn : (u : Table K) (n p : ℕ) → At t (λ s. s ≡ Kept n) p → PutAt t u p Free None → AgreesWith demand (with_withdrawn a n) u
+  pub row_withdrawn : (u : Table K) (n p : ℕ) → AtLow t (λ s. s ≡ Kept n) p → PutAt t u p Free None → AgreesWith demand (with_withdrawn a n) u
   row_withdrawn u n p at put =
       let it = kept_at t agrees n p at in
       put_agrees put
-      (row_out t agrees p at.0 it.task it.stands n it.number a.holds (λ m ne. refl)
+      (row_out t agrees p (at.0, within t p it.task it.stands) it.task it.stands n it.number a.holds (λ m ne. refl)
       (with_withdrawn_sound a agrees.sound n (is_spent t agrees n p at).1))

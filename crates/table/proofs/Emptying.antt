@@ -1,5 +1,5 @@
 -- A table over places that were just emptied. Assumes nothing.
-use Rattle.std.proofs.Common.{◌≡◌, ℕ, zero, suc, ◌<◌, min, List, [], ◌∷◌, ◌++◌, length, get_or, take, drop, Some, None, Option, sym, refl, ap, ◌∙◌, subst₂, arith}
+use Rattle.std.proofs.Common.{◌≡◌, ℕ, zero, suc, ◌<◌, min, List, [], ◌∷◌, ◌++◌, length, get_or, take, drop, Some, None, Option, sym, refl, ap, ◌∙◌, subst, subst₂, arith}
 use native.Mathlib.Decide.{dec_lt}
 use Rattle.std.specs.List.{FoldsTo}
 use Rattle.std.proofs.lemmas.List.{length-append, length-drop, get_or_append_left, get_or_past, get_or-take, get_or-replicate}
@@ -46,12 +46,16 @@ abbrev pub twelve_free : List State
 twelve_free = Free ∷ Free ∷ Free ∷ Free ∷ Free ∷ Free ∷ Free ∷ Free ∷ Free ∷ Free ∷ Free ∷ Free ∷ []
 
 -- an empty table agrees with a fresh account
-pub fresh_agrees : {K : Type 0} (demand : K → Demand) (number : ℕ) (before after : List (Option (Task K))) → Emptied before after → Agrees demand (fresh number (min (length before) 12)) number twelve_free after
-fresh_agrees demand number before after emptied = record {
+pub fresh_agrees : {K : Type 0} (demand : K → Demand) (number : ℕ) (states : List State) (places : List (Option (Task K))) → length states ≡ 12 → ((i : ℕ) → i < 12 → get_or states i Free ≡ Free) → ((i : ℕ) → i < 12 → get_or places i None ≡ None) → Agrees demand (fresh number (min (length places) 12)) number states places
+fresh_agrees demand number states places long free empty = record {
   number_is = refl;
-  states_are = refl;
-  room_is = ap (λ n. min n 12) (sym emptied.count);
-  rows_are = rw (no_claims demand 12 after emptied.empty) same;
-  at_each = λ i l. subst₂ (StandsAt (fresh number (min (length before) 12))) (sym (get_or-replicate 12 i Free Free l)) (sym (get_or-take 12 after i None l ∙ emptied.empty i l)) tt;
-  sound = fresh_sound number (min (length before) 12);
+  states_are = long;
+  room_is = refl;
+  rows_are = rw (no_claims demand 12 places empty) same;
+  at_each = λ i l. subst₂ (StandsAt (fresh number (min (length places) 12))) (sym (free i l)) (sym (get_or-take 12 places i None l ∙ empty i l)) tt;
+  sound = fresh_sound number (min (length places) 12);
 }
+
+-- so a table over places that were emptied does, and its room is that of the places as they were
+pub emptied_agrees : {K : Type 0} (demand : K → Demand) (number : ℕ) (before after : List (Option (Task K))) → Emptied before after → Agrees demand (fresh number (min (length before) 12)) number twelve_free after
+emptied_agrees demand number before after emptied = subst (λ n. Agrees demand (fresh number (min n 12)) number twelve_free after) emptied.count (fresh_agrees demand number twelve_free after refl (λ i l. get_or-replicate 12 i Free Free l) emptied.empty)

@@ -1,13 +1,14 @@
 -- What a look into the table says of the account. Assumes nothing.
 use Rattle.std.proofs.Common.{MatchOption, ◌≡◌, ℕ, suc, ◌+◌, ◌<◌, ◌≤◌, Bool, true, false, cond, not, ◌||◌, eqb, leb, ltb, List, [], ◌∷◌, length, get_or, take, is_some, Some, None, Option, sym, refl, ap, ◌∙◌, subst, arith, lt-ltb}
 use Rattle.std.specs.List.{filter, flat_map, find, list_any}
+use native.Mathlib.Decide.{dec_lt}
 use denote.Ref.{Bor}
 use Rattle.std.specs.declared.option.Iter.{OptionIter}
 use Rattle.std.specs.Iterator.Adapters.{option_iter_done, option_iter_item, option_iter_steps}
 use Rattle.std.proofs.lemmas.Iterator.{YieldsList}
 use Rattle.std.proofs.lemmas.Iterator.Consumers.{YieldsList-from_shown}
 use Rattle.std.specs.Option.{is_none, option_map, option_to_list}
-use Rattle.std.proofs.lemmas.List.{length-take}
+use Rattle.std.proofs.lemmas.List.{length-take, get_or_past}
 use Rattle.std.proofs.lemmas.List.Recursion.{or_is, same_from_clauses}
 use Rattle.std.proofs.lemmas.Bool.{both_ways, false_from_ne_true}
 use Rattle.std.proofs.lemmas.Bool.Decides.{nat_tests}
@@ -20,7 +21,7 @@ use Rattle.table.specs.declared.State.TheVariants.{Free}
 use Rattle.table.specs.declared.Table.{Table}
 use Rattle.table.specs.Account.{Account, any_above, has_number, has_priority}
 use Rattle.table.specs.Agreement.{AgreesWith, StandsAt}
-use Rattle.table.specs.Places.{names, answer_of, PlaceWhere}
+use Rattle.table.specs.Places.{names, answer_of, At, PlaceWhere}
 use Rattle.table.proofs.Shared.{length_reordered, number_reordered, priority_reordered}
 
 -- the tasks at the places that a table uses
@@ -33,6 +34,25 @@ task_at t i = get_or (tasks t) i None
 
 abbrev pub state_at : {K : Type 0} → Table K → ℕ → State
 state_at t i = get_or t.states i Free
+
+-- at one of the first twelve places, P is true of the state
+abbrev pub AtLow : {K : Type 0} → Table K → (State → Type 0) → ℕ → Type 0
+AtLow t P p = (p < 12) × P (state_at t p)
+
+-- what a search through the places found, by less: a place that it found is one of the first twelve
+abbrev pub LowWhere : {K : Type 0} → Table K → (State → Type 0) → Option ℕ → Type 0
+LowWhere t P r = MatchOption r ((p : ℕ) → At t P p → ⊥) (AtLow t P)
+
+pub low_where : {K : Type 0} (t : Table K) (P : State → Type 0) (r : Option ℕ) → PlaceWhere t P r → LowWhere t P r
+low_where t P None f = f
+low_where t P (Some p) f = (f.0.0, f.1)
+
+-- a place with a task is within the row memory
+pub within : {K : Type 0} (t : Table K) (p : ℕ) (u : Task K) → task_at t p ≡ Some u → p < length t.places.now
+within t p u e = elim (dec_lt p (length (tasks t))) [
+  | yes l ↦ omega (arith, length-take 12 t.places.now)
+  | no l ↦ let past = get_or_past (tasks t) p None (omega arith) in cc
+]
 
 -- what `any` and `find` answer, in the words of the definitions
 pub any_above_is : (own : ℕ) (ns : List ℕ) → list_any (ltb own) ns ≡ any_above own ns
@@ -95,15 +115,24 @@ module _ {K : Type 0} {demand : K → Demand} {a : Account} (t : Table K) (agree
           false_from_ne_true (p (task_at t i)) (λ q. f i ((low, omega arith), from (state_at t i) (task_at t i) (agrees.at_each i low) q))
 
   -- a place names the number exactly where the account has such a row
-  pub number_found : (n : ℕ) (r : Option ℕ) → PlaceWhere t (λ s. names s n ≡ true) r → is_some r ≡ has_number n a.rows
+  pub number_found : (n : ℕ) (r : Option ℕ) → LowWhere t (λ s. names s n ≡ true) r → is_some r ≡ has_number n a.rows
   number_found n r f =
-      found (λ s. names s n ≡ true) (λ os. has_number n (claims_of demand os)) (named n) refl (named_more demand n) (λ s o h e. sym (names_task a n s o h) ∙ e) (λ s o h e. names_task a n s o h ∙ e) r f
+      found (λ s. names s n ≡ true) (λ os. has_number n (claims_of demand os)) (named n) refl (named_more demand n) (λ s o h e. sym (names_task a n s o h) ∙ e) (λ s o h e. names_task a n s o h ∙ e) r (used_where r f)
       ∙ number_reordered n agrees.rows_are
+    where
+      used_at : (p : ℕ) → (o : Option (Task K)) → task_at t p ≡ o → named n o ≡ true → p < length t.places.now
+      used_at p None e named = cc
+      used_at p (Some u) e named = within t p u e
+
+      used_where : (r : Option ℕ) → LowWhere t (λ s. names s n ≡ true) r → PlaceWhere t (λ s. names s n ≡ true) r
+      used_where None f = f
+      used_where (Some p) f =
+          ((f.0, used_at p (task_at t p) refl (sym (names_task a n (state_at t p) (task_at t p) (agrees.at_each p f.0)) ∙ f.1)), f.1)
 
   -- the same, of what a search through the places says of each
   pub number_found_within : (n : ℕ) (r : Option ℕ) → MatchOption r ((i : ℕ) → i < 12 → i < length t.places.now → names (state_at t i) n ≡ false) (λ p. (p < 12) × (p < length t.places.now) × (names (state_at t p) n ≡ true)) → is_some r ≡ has_number n a.rows
   number_found_within n None f = number_found n None (λ p at. both_ways (names (state_at t p) n) (f p at.0.0 at.0.1) at.1)
-  number_found_within n (Some p) f = number_found n (Some p) ((f.0, f.1), f.2)
+  number_found_within n (Some p) f = number_found n (Some p) (f.0, f.2)
 
   pub priority_found : (p : ℕ) → has_priority p (claims_of demand (tasks t)) ≡ has_priority p a.rows
   priority_found p = priority_reordered p agrees.rows_are

@@ -17,7 +17,7 @@ use Rattle.table.specs.declared.Table.{Table}
 use Rattle.table.specs.Account.{Account, Bears, has_number, unspent, held, spent, Spends}
 use Rattle.table.specs.Agreement.{AgreesWith, StandsAt, StateOf, OwnHolds}
 use Rattle.table.specs.Places.{names, At, HeldHere}
-use Rattle.table.proofs.Lookups.{tasks, task_at, state_at, named, named_more, number_found}
+use Rattle.table.proofs.Lookups.{tasks, task_at, state_at, AtLow, named, named_more, number_found}
 use Rattle.table.proofs.Parts.{unspent_own}
 use Rattle.table.proofs.Shared.{number_reordered}
 
@@ -58,29 +58,29 @@ at_kept a n (Some u) s = record { task = u; stands = refl; number = s.0; unspent
 
 module _ {K : Type 0} {demand : K → Demand} {a : Account} (t : Table K) (agrees : AgreesWith demand a t) where
   -- what stands at a place of this state
-  pub stands : (s : State) (p : ℕ) → At t (λ x. x ≡ s) p → StandsAt a s (task_at t p)
-  stands s p at = subst (λ x. StandsAt a x (task_at t p)) at.1 (agrees.at_each p at.0.0)
+  pub stands : (s : State) (p : ℕ) → AtLow t (λ x. x ≡ s) p → StandsAt a s (task_at t p)
+  stands s p at = subst (λ x. StandsAt a x (task_at t p)) at.1 (agrees.at_each p at.0)
 
-  pub held_at : (n p : ℕ) → At t (λ s. s ≡ Held n) p → TaskAt a (task_at t p) n true
+  pub held_at : (n p : ℕ) → AtLow t (λ s. s ≡ Held n) p → TaskAt a (task_at t p) n true
   held_at n p at = at_held a n (task_at t p) (stands (Held n) p at)
 
-  pub kept_at : (n p : ℕ) → At t (λ s. s ≡ Kept n) p → TaskAt a (task_at t p) n false
+  pub kept_at : (n p : ℕ) → AtLow t (λ s. s ≡ Kept n) p → TaskAt a (task_at t p) n false
   kept_at n p at = at_kept a n (task_at t p) (stands (Kept n) p at)
 
-  pub is_held : (n p : ℕ) → At t (λ s. s ≡ Held n) p → held n a.holds ≡ true
+  pub is_held : (n p : ℕ) → AtLow t (λ s. s ≡ Held n) p → held n a.holds ≡ true
   is_held n p at = same_held a.number n a.rows a.holds agrees.sound.holds ∙ (held_at n p at).unspent_is
 
   -- a kept row has no unspent hold
-  pub is_spent : (n p : ℕ) → At t (λ s. s ≡ Kept n) p → (unspent t.number n a.holds ≡ false) × (held n a.holds ≡ false)
+  pub is_spent : (n p : ℕ) → AtLow t (λ s. s ≡ Kept n) p → (unspent t.number n a.holds ≡ false) × (held n a.holds ≡ false)
   is_spent n p at =
       let there = kept_at n p at in
       (rw (← agrees.number_is) there.unspent_is, same_held a.number n a.rows a.holds agrees.sound.holds ∙ there.unspent_is)
 
-  pub has_row : (n p : ℕ) → At t (λ s. names s n ≡ true) p → has_number n a.rows ≡ true
+  pub has_row : (n p : ℕ) → AtLow t (λ s. names s n ≡ true) p → has_number n a.rows ≡ true
   has_row n p at = sym (number_found t agrees n (Some p) at)
 
   -- what the account says of a row is the state at its place
-  pub state_is : (n p : ℕ) → At t (λ s. names s n ≡ true) p → StateOf a n (state_at t p)
+  pub state_is : (n p : ℕ) → AtLow t (λ s. names s n ≡ true) p → StateOf a n (state_at t p)
   state_is n p at = go (state_at t p) refl at.1
     where
       go : (s : State) → state_at t p ≡ s → names s n ≡ true → StateOf a n s
@@ -90,7 +90,7 @@ module _ {K : Type 0} {demand : K → Demand} {a : Account} (t : Table K) (agree
 
   -- a hold is unspent exactly where its row is held here
   pub still_ours : (h : Hold) (p : ℕ) → HeldHere t h p → unspent h.table h.row a.holds ≡ true
-  still_ours h p here = rw (here.0, ← agrees.number_is) (held_at h.row p here.1).unspent_is
+  still_ours h p here = rw (here.0, ← agrees.number_is) (held_at h.row p (here.1.0.0, here.1.1)).unspent_is
 
   -- an unspent hold is of this table, and of one of its rows
   ours : (h : Hold) → unspent h.table h.row a.holds ≡ true → h.table ≡ a.number

@@ -35,7 +35,7 @@ impl From<JudgeRefusal> for HoldRefusal {
 fn is_no_byte(number: u32) -> bool
     ensures { result ≡ no_byte number }
 {
-    number == 0 || 255 < number
+    !(1..=255).contains(&number)
 }
 
 impl<'a, K: Kind + Drop> Table<'a, K> {
@@ -145,6 +145,7 @@ impl<'a, K: Kind + Drop> Table<'a, K> {
     pub fn bound(&self, number: u32) -> Result<(u32, u32), BoundRefusal>
         ensures { (a : Account) → AgreesWith K.demand a self.now → BoundsAnswered a number result }
     {
+        // never an error where some account agrees with the table, and only there can that be proved
         let answers = self.answers().map_err(|_| BoundRefusal::NoSuchRow)?;
         find_answer(answers.rows(), number).ok_or(BoundRefusal::NoSuchRow)
     }

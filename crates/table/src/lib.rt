@@ -12,8 +12,8 @@ mod views;
 
 use analysis::Task;
 
-// The most rows that a table takes.
-pub const MOST_ROWS: usize = 12;
+// The most rows that a table takes: as many as are judged together.
+pub use analysis::MOST_ROWS;
 
 // What stands at a place: nothing, or a row that is held or kept, by its number.
 #[derive(Clone, Copy, PartialEq, Eq, Debug)]
@@ -61,8 +61,8 @@ pub enum SpendRefusal {
 // Why a row is not withdrawn.
 #[derive(Clone, Copy, PartialEq, Eq, Debug)]
 pub enum WithdrawRefusal {
-    NoSuchRow,
-    NotKept,
+    NoSuchRow = 13,
+    NotKept = 14,
 }
 
 // Why no bound is answered.
@@ -71,7 +71,8 @@ pub enum BoundRefusal {
     NoSuchRow,
 }
 
-// The figures worked out by hand follow from the definitions.
+// The figures worked out by hand follow from the definitions. The answer is always `true`: a law is proved where a function
+// ensures it.
 #[tactic(auto, using(crate::proofs::Worked::worked_figures))]
 pub fn worked_figures_hold() -> bool
     ensures { (result ≡ true) × (WorkedFigures) }

@@ -5,7 +5,7 @@ ghost use Rattle.table.specs.Agreement.{AgreesWith};
 ghost use Rattle.table.specs.Places.{names, answer_of, PlaceWhere};
 
 use super::{MOST_ROWS, State, Table};
-use analysis::{Answer, Task};
+use analysis::{Answer, LOCKS, Task};
 use demand::Kind;
 
 impl State {
@@ -18,7 +18,7 @@ impl State {
 }
 
 // Whether a section is longer than the longest job.
-pub(crate) fn any_longer(sections: &[u32; 8], own: u32) -> bool
+pub(crate) fn any_longer(sections: &[u32; LOCKS], own: u32) -> bool
     ensures { result ≡ any_above own sections.now }
 {
     sections.iter().any(|section| own < *section)

@@ -26,8 +26,8 @@ impl Hold {
     }
 }
 
-// The numbers of refusals are those that the formats lay down. A cast gives none where a refusal has a value in it, as two
-// of these have, so all four say theirs by a match.
+// The numbers of refusals are those that the formats lay down. Where a refusal has a value in it a cast gives none, and a
+// match says it.
 impl HoldRefusal {
     pub fn number(self) -> u32
         ensures { result ≡ hold_number self }
@@ -58,10 +58,7 @@ impl WithdrawRefusal {
     pub fn number(self) -> u32
         ensures { result ≡ withdraw_number self }
     {
-        match self {
-            WithdrawRefusal::NoSuchRow => 13,
-            WithdrawRefusal::NotKept => 14,
-        }
+        self as u32
     }
 }
 
@@ -70,7 +67,7 @@ impl BoundRefusal {
         ensures { result ≡ bound_number self }
     {
         match self {
-            BoundRefusal::NoSuchRow => 13,
+            BoundRefusal::NoSuchRow => WithdrawRefusal::NoSuchRow.number(),
         }
     }
 }

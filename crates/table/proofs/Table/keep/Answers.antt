@@ -14,4 +14,4 @@ returns-in_err-place-clause-account g c a agrees =
 pub returns-clause-account : goal.returns-clause-account
 returns-clause-account g c a agrees =
     let here = c.in_ok-place.ensures in
-    (with_kept a c.args.hold, (still_ours c.args.self.now agrees c.args.hold c.in_ok-place.place here, refl), row_kept c.args.self.now agrees c.args.hold c.in_ok-place.place here)
+    (with_kept a c.args.hold, (still_ours c.args.self.now agrees c.args.hold c.in_ok-place.place here, refl), row_kept c.args.self.now agrees c.args.hold c.in_ok-place.place here.0 (here.1.0.0, here.1.1))

@@ -2,7 +2,7 @@ use Rattle.std.proofs.Common.{◌≡◌, min, length, None, refl, arith, rules}
 use borrow.Author.Tests.{tests}
 use Rattle.std.proofs.lemmas.List.{length-take}
 use Rattle.table.proofs.AfterRun.{every_run}
-use Rattle.table.proofs.Emptying.{filled, emptied, fresh_agrees}
+use Rattle.table.proofs.Emptying.{filled, emptied, emptied_agrees}
 use Rattle.table.proofs.Table.new.Goals as goal
 
 pub returns : goal.returns
@@ -10,7 +10,7 @@ returns g c =
     let limit : c.min-limit.result ≡ min (length c.args.places.now) 12 = omega arith in
     let memory = emptied c.args.places.now c.fill_with.new.self c.min-limit.result limit (omega (arith, length-take c.min-limit.result c.args.places.now)) (filled _ None (λ p y q r. search (rules, tests)) _ c.fill_with.new.self _ c.fill_with.ensures.ran.1) in
     record {
-      agrees = fresh_agrees g.K.Kind.demand c.args.number c.args.places.now _ memory;
+      agrees = emptied_agrees g.K.Kind.demand c.args.number c.args.places.now _ memory;
       every_run = every_run c.args.number _;
       memory = memory;
       number = refl;
