@@ -90,10 +90,6 @@ module _ {K : Type 0} (demand : K → Demand) (places : List (Option (Task K))) 
     pub rows : (j : ℕ) → j < k → RowAnswered (at ls j) (get_or answers j no_answer)
     pub bounds : Bounds (system ls) k (bounds_of answers) (vectors_of answers)
 
-  pub none_yet : (ls : List Load) → SoFar ls 0 [] []
-  none_yet ls =
-      record { count = refl; above_count = refl; seen = refl; rows = λ j h. absurd (not-suc-le-zero h); bounds = λ j h. absurd (not-suc-le-zero h) }
-
   module _ (rs : List Rank) (k : ℕ) (within : k < length rs) (blocked : ℕ) (is_blocked : blocked ≡ blocking (ranked_rows rs) (get_or rs k no_rank).row (ranked_rows (drop (k + 1) rs))) where
     abbrev all_loads : List Load
     all_loads = loads (map claim rs)

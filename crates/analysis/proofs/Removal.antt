@@ -25,10 +25,6 @@ milder l m h lawful q r le =
       work = λ v w a b. subst (λ (c : Claim). c.demand.work v ≤ m.claim.demand.work w) (sym h.claim) (lawful.work_never_falls v w a b);
     }
 
--- a vector for the rows that are left has their bits, closed up
-closed_up : (b u n : ℕ) → b < 2 → u < n → b + 2 * u < 2 * n
-closed_up b u n p q = omega arith
-
 double : (k : ℕ) → 2 ^ suc k ≡ 2 * 2 ^ k
 double k = pow-suc 2 k ∙ mul_comm (2 ^ k) 2
 

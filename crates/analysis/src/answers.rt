@@ -5,13 +5,24 @@ ghost use Rattle.analysis.specs.Judge.{answers_of};
 use super::{Answer, MOST_ROWS};
 
 // The answers for `count` rows, highest first. A caller can copy them, as it could not copy an `ArrayVec`.
-#[derive(Clone, Copy, Default)]
+#[derive(Clone, Copy)]
 pub struct Answers {
     pub(crate) count: usize,
     pub(crate) rows: [Answer; MOST_ROWS],
 }
 
 impl Answers {
+    // No answer yet.
+    pub(crate) fn none() -> Answers
+        ensures count { result.count ≡ 0 }
+        ensures answers { answers_of result ≡ [] }
+    {
+        Answers {
+            count: 0,
+            rows: [Answer::default(); MOST_ROWS],
+        }
+    }
+
     // One answer more.
     pub(crate) fn push(&mut self, answer: Answer)
         requires { self.old.count < 12 }

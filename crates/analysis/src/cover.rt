@@ -1,5 +1,5 @@
 // What a row needs by a window, under a vector. Sums beyond u64 count as its largest number.
-ghost use Rattle.std.specs.Prelude.{◌≡◌, ◌+◌, ◌-◌, ◌%◌, ◌^◌, min, if◌then◌else◌};
+ghost use Rattle.std.specs.Prelude.{◌≡◌, ◌+◌, ◌-◌, ◌^◌, min, if◌then◌else◌};
 ghost use Rattle.demand.specs.Demand.{window as clipped};
 ghost use Rattle.analysis.specs.Candidates.{kind_demand, need_with};
 

@@ -61,7 +61,7 @@ impl<'a, K: Kind> Candidates<'a, K> {
         ensures { RanksJudged (map (claim_of K.demand self.now.places.now self.now.newcomer.now) ranks.now) result }
     {
         let ceilings = ceilings_of(ranks);
-        let mut answers = Answers::default();
+        let mut answers = Answers::none();
         let mut higher = HigherRows::new();
         for (k, rank) in ranks.iter().enumerate() {
             let blocking = blocking_of(&ceilings, &rank.row, &ranks[k + 1..]);

@@ -1,7 +1,7 @@
 // Kinds of demand: what the jobs of a task can ask of the processor.
 #![tactic(auto)]
 
-ghost use Rattle.std.specs.Prelude.{◌≡◌, ℕ, ◌<◌, ◌≤◌, true, not};
+ghost use Rattle.std.specs.Prelude.{◌≡◌, ◌<◌, ◌≤◌, true, not};
 ghost use Rattle.demand.specs.Demand.{Demand, Lawful, capped, divided_up};
 ghost use Rattle.demand.specs.Figures.{KindFigures};
 ghost use Rattle.demand.specs.Refusals.{no_length, refusal_number};

@@ -1,5 +1,5 @@
 // The kind with one heavy job among so many.
-ghost use Rattle.std.specs.Prelude.{◌≡◌, ◌^◌, ◌<◌, ◌≤◌, IfOk};
+ghost use Rattle.std.specs.Prelude.{◌≡◌, ◌^◌, ◌<◌, IfOk};
 ghost use Rattle.demand.specs.Basic.{from_heavy, heavy_demand, largest_total, length_of_heavy, length_of_job, length_of_pattern};
 ghost use Rattle.demand.specs.Refusals.{answer_number, first, heavy_checks};
 ghost use Rattle.demand.specs.Laws.{heavy_lawful};
@@ -34,9 +34,7 @@ impl Heavy {
             period,
         })
     }
-}
 
-impl Heavy {
     // The total of consecutive jobs that begin with a heavy one.
     fn from_heavy(&self, jobs: u64) -> u64
         requires { jobs < 2 ^ 32 }

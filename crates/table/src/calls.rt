@@ -1,9 +1,6 @@
 // The calls of a table.
-ghost use Rattle.std.specs.Prelude.{◌≡◌, ℕ, ◌<◌, min, true, false, [], ◌∷◌, length, take, Some, None, Ok, Err, MatchOption, MatchResult, slice_index_or};
+ghost use Rattle.std.specs.Prelude.{◌≡◌, ℕ, min, length, Some, None, MatchResult};
 ghost use Rattle.demand.specs.Refusals.{first};
-ghost use Rattle.analysis.specs.declared.answers.Answers.{Answers};
-ghost use Rattle.analysis.specs.Candidates.{claims};
-ghost use Rattle.analysis.specs.Judge.{Judged};
 ghost use Rattle.table.specs.declared.State.TheVariants.{Free, Held, Kept};
 ghost use Rattle.table.specs.Account.{Account, fresh, no_byte, row_checks, check_number, as_refusal, Holds, Spends, with_kept, with_released, Withdraws, BoundsAnswered};
 ghost use Rattle.table.specs.declared.SpendRefusal.TheVariants.{NotHeld};
