@@ -36,14 +36,14 @@ pub enum Fault {
     Line(u32, LineFault),
 }
 
-// What a fault says: the number of the check that applies, the line and the field that are to blame, and the row that would be late. Each counts from 1,
-// and is 0 where there is none.
-#[derive(Clone, Copy)]
-pub(crate) struct Blame {
-    number: u32,
-    line: u32,
-    field: u32,
-    late: u32,
+// What a fault says: the number of the check that applies, the line and the field that are to blame, and the row that would
+// be late. Lines and fields count from 1. Where there is none it is 0, as it is printed, and as the definitions have it.
+#[derive(Clone, Copy, PartialEq, Eq, Debug)]
+pub struct Blame {
+    pub number: u32,
+    pub line: u32,
+    pub field: u32,
+    pub late: u32,
 }
 
 // By hand, here and below: a derived `From` does not say what it gives.
@@ -86,6 +86,7 @@ fn late_row(refusal: HoldRefusal) -> u32
 }
 
 impl LineFault {
+    // What it says before its line is known.
     fn blame(self) -> Blame
         ensures { result ≡ line_blame self }
     {
@@ -103,7 +104,8 @@ impl LineFault {
 }
 
 impl Fault {
-    fn blame(self) -> Blame
+    // All that it says.
+    pub fn blame(self) -> Blame
         ensures { result ≡ blame self }
     {
         match self {

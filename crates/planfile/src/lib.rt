@@ -12,7 +12,7 @@ mod row;
 mod word;
 mod writing;
 
-pub use fault::{Fault, FieldFault, LineFault};
+pub use fault::{Blame, Fault, FieldFault, LineFault};
 pub use loading::{answer, load};
 pub use number::read_number;
 pub use writing::write_refusal;
@@ -23,7 +23,8 @@ pub const LONGEST_FILE: usize = 4096;
 // The bytes of memory that a report is lent. Every report fits.
 pub const REPORT_MEMORY: usize = 512;
 
-// The figures of a plan file of three rows follow from the definitions.
+// The figures of a plan file of three rows follow from the definitions. The answer is always `true`: a law is proved where a
+// function ensures it.
 #[tactic(auto, using(crate::proofs::PlanFigures::plan_figures))]
 pub fn plan_figures_hold() -> bool
     ensures { (result ≡ true) × (PlanFigures) }

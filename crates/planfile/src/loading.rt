@@ -13,7 +13,7 @@ use super::reader::Reader;
 use super::row::{RowKind, read_clock, take_row};
 use super::writing::{write_refusal, write_report};
 use super::{Fault, LONGEST_FILE, REPORT_MEMORY};
-use table::Table;
+use table::{MOST_ROWS, Table};
 
 // Checks what can be said before a line is read.
 fn check_file(file: &[u8], room: usize) -> Result<(), Fault>
@@ -62,7 +62,7 @@ pub fn load(file: &[u8], report: &mut [u8]) -> Result<usize, Fault>
     ensures round_trip { RoundTrip file.now report.old result report.new }
 {
     check_file(file, report.len())?;
-    let mut places = [None; 12];
+    let mut places = [None; MOST_ROWS];
     let mut table = Table::new(0, &mut places);
     take_lines(file, &mut table)?;
     let answers = table.answers().unwrap();

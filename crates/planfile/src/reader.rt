@@ -7,7 +7,8 @@ mod reading;
 // The most fields of a line that are kept.
 const MOST_FIELDS: usize = 20;
 
-// A line of the file. It is seen as all its fields, of which the first twenty are kept. The count goes beyond those.
+// A line of the file. It is seen as all its fields. The first twenty are kept, in an array, since nothing is allocated here,
+// and all are counted as they are read. The text is there for the view alone.
 #[derive(Drop)]
 pub(crate) struct Line<'a> {
     text: &'a [u8],
@@ -26,7 +27,8 @@ impl<'a> Model for Line<'a> {
     ghost invariant = { λ l. (l.count ≡ length (fields l.text.now)) × (map (λ f. f.now) l.kept.items ≡ take 20 (fields l.text.now)) };
 }
 
-// Where the reader stands in the line at hand.
+// Where the reader stands in the line at hand. It is matched with the next byte in one match and changed in place, so each
+// byte is looked at once; a line that is split at its tabs would be gone through twice.
 #[derive(Clone, Copy)]
 enum State {
     // in the field of this index, which began at this place

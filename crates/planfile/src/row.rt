@@ -85,18 +85,20 @@ fn read_plain(line: &Line) -> Result<(Row, u32), LineFault>
     ensures { Reads (number_checks line.now 2 14) (row_of line.now, number_in line.now 7) result }
 {
     let [number, priority, suspension, suspensions, deadline, delay] = read_numbers::<6>(line, 2)?;
+    let sections = read_numbers::<8>(line, 8)?;
     let row = Row {
         number,
         priority,
         suspension,
         suspensions,
         deadline,
-        sections: read_numbers(line, 8)?,
+        sections,
     };
     Ok((row, delay))
 }
 
-// The jobs of a row, from the numbers behind the word that names their kind.
+// The jobs of a row, from the numbers behind the word that names their kind. The word itself is passed on, since what is due
+// goes by it.
 fn read_jobs(line: &Line, kind: Word) -> Result<Jobs, LineFault>
     requires named { 0 < fields_due kind }
     requires due { length line.now ≡ fields_due kind }

@@ -70,9 +70,11 @@ impl<'a> Iterator for Reader<'a> {
             self.step(at, *byte);
             if let State::Ended(count) = self.state {
                 self.text = &text[at + 1..];
-                let kept = self.kept.take();
-                let text = &text[..at];
-                return Some(Line { text, kept, count });
+                return Some(Line {
+                    text: &text[..at],
+                    kept: self.kept.take(),
+                    count,
+                });
             }
         }
         None

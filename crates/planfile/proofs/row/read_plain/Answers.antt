@@ -11,8 +11,8 @@ returns-in_err-number c =
     let p = err_from_is_err_and c.from_residual.result c.from_residual.ensures.1 in
     rw (p.1, p.2) (stopped (number_checks fs 2 6) (number_checks fs 8 8) _ (fault_numbered _) c.in_err-number.ensures)
 
-pub returns-in_err-read_numbers : goal.returns-in_err-read_numbers
-returns-in_err-read_numbers c =
+pub returns-in_err-sections : goal.returns-in_err-sections
+returns-in_err-sections c =
     let fs = c.args.line.now in
-    let p = err_from_is_err_and c.from_residual-in_err-read_numbers.result c.from_residual-in_err-read_numbers.ensures.1 in
-    rw (p.1, p.2) (passed (number_checks fs 2 6) (number_checks fs 8 8) (numbered_numbers fs 2 6) c.in_ok-number.ensures.0 ∙ c.in_err-read_numbers.ensures)
+    let p = err_from_is_err_and c.from_residual-in_err-sections.result c.from_residual-in_err-sections.ensures.1 in
+    rw (p.1, p.2) (passed (number_checks fs 2 6) (number_checks fs 8 8) (numbered_numbers fs 2 6) c.in_ok-number.ensures.0 ∙ c.in_err-sections.ensures)
