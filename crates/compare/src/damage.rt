@@ -2,7 +2,6 @@
 ghost use Rattle.std.specs.Prelude.{◌<◌, length, IfSome};
 
 use super::random::Random;
-use super::reading::parts_of;
 use std::alloc::{AllocError, Global};
 use std::iter;
 
@@ -70,10 +69,8 @@ fn replace_field(file: &mut Vec<u8>, field: usize, text: &str) -> Result<(), All
         file.clear();
         return Ok(());
     };
-    let start = match file[..end].iter().rposition(|byte| ends_field(*byte)) {
-        Some(mark) => mark + 1,
-        None => 0,
-    };
+    let mark = file[..end].iter().rposition(|byte| ends_field(*byte));
+    let start = mark.map_or(0, |mark| mark + 1);
     file.splice(start..end, text.bytes())?;
     Ok(())
 }
@@ -96,24 +93,21 @@ fn replace_end(file: &mut Vec<u8>, field: usize, other: u8) {
 
 // The file with two of its lines exchanged, or with one twice. What stands behind the last newline goes.
 fn with_lines(heap: Global, random: &mut Random, file: &[u8]) -> Result<Vec<u8>, AllocError> {
-    let mut lines = parts_of(heap, file, b'\n')?;
-    let _behind = lines.pop();
+    let mut lines: Vec<&[u8]> = file
+        .split_inclusive(|byte| *byte == b'\n')
+        .filter(|line| line.ends_with(b"\n"))
+        .collect(heap)?;
     let one = random.place(lines.len());
     let other = random.place(lines.len());
     let twice = random.one_in(2);
-    if let Some(line) = lines.get(one).copied() {
+    if let (Some(one), Some(other)) = (one, other) {
         if twice {
-            lines.insert(one, line)?;
+            lines.insert(one, lines[one])?;
         } else {
             lines.swap(one, other);
         }
     }
-    let mut out = Vec::new(heap);
-    for line in &lines {
-        out.extend_from_slice(line)?;
-        out.push(b'\n')?;
-    }
-    Ok(out)
+    lines.concat(heap)
 }
 
 // Does some damage to the file.
@@ -123,7 +117,7 @@ pub(crate) fn damage(
     file: &mut Vec<u8>,
 ) -> Result<(), AllocError> {
     let chosen = random.place(file.len());
-    let field = random.place(count_fields(file.as_slice()));
+    let field = random.place(count_fields(file.as_slice())).unwrap_or(0);
     if random.one_in(50) {
         // as long as a file may be, or a little shorter or longer
         let length = random.within(4094, 4098) as usize;
@@ -132,19 +126,19 @@ pub(crate) fn damage(
     match random.below(12) {
         0 => {
             let other = some_byte(random);
-            if chosen < file.len() {
-                file[chosen] = other;
+            if let Some(place) = chosen {
+                file[place] = other;
             }
         }
         1 => {
-            if chosen < file.len() {
-                file.remove(chosen);
+            if let Some(place) = chosen {
+                file.remove(place);
             }
         }
         2 => {
             let more = some_byte(random);
-            if chosen < file.len() {
-                file.insert(chosen, more)?;
+            if let Some(place) = chosen {
+                file.insert(place, more)?;
             }
         }
         3 => replace_end(file, field, b' '),

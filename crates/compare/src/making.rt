@@ -1,6 +1,7 @@
 // Rows with small numbers, made at random.
 use super::plain::{Factor, Jobs, Layer, Nested, Plain, Suspension};
 use super::random::Random;
+use std::array;
 
 // How the priorities of a set are dealt out: no two rows get the same.
 #[derive(Clone, Copy)]
@@ -30,13 +31,13 @@ fn number_at(random: &mut Random, place: u32) -> u32 {
 
 // Up to three locks are used, each by few rows.
 fn some_sections(random: &mut Random, longest: u32) -> [u32; 8] {
-    let mut sections = [0; 8];
-    for (lock, section) in sections.iter_mut().enumerate() {
+    array::from_fn(|lock| {
         if (lock < 2 || lock == 7) && random.one_in(4) {
-            *section = random.within(1, longest);
+            random.within(1, longest)
+        } else {
+            0
         }
-    }
-    sections
+    })
 }
 
 // A suspension whose numbers are both 0, or neither.
@@ -47,10 +48,7 @@ fn some_suspension(random: &mut Random) -> Suspension {
             times: random.within(1, 3),
         }
     } else {
-        Suspension {
-            length: 0,
-            times: 0,
-        }
+        Suspension::default()
     }
 }
 

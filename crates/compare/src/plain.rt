@@ -2,6 +2,7 @@
 ghost use Rattle.std.specs.Prelude.{◌<◌};
 
 use std::alloc::{AllocError, Global};
+use std::iter;
 
 // The longest job and the most work that is ever answered.
 const CAP: u64 = 2_000_000;
@@ -53,7 +54,7 @@ pub(crate) struct Nested {
 }
 
 // How long a job suspends itself in all, and how often.
-#[derive(Clone, Copy, Debug)]
+#[derive(Clone, Copy, Default, Debug)]
 pub(crate) struct Suspension {
     pub(crate) length: u32,
     pub(crate) times: u32,
@@ -257,10 +258,6 @@ impl Load {
 fn totals_of(heap: Global, pattern: Pattern, jobs: u64) -> Result<Vec<u64>, AllocError> {
     // for each place of the pattern a run that begins there and has no jobs yet
     let mut runs = vec![in heap; 0; pattern.among as usize]?;
-    let mut totals = Vec::new(heap);
-    totals.push(0)?;
-    for count in 0..jobs {
-        totals.push(lengthen(runs.as_mut_slice(), pattern, count))?;
-    }
-    Ok(totals)
+    let longer = (0..jobs).map(|count| lengthen(runs.as_mut_slice(), pattern, count));
+    iter::once(0).chain(longer).collect(heap)
 }

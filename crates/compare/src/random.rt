@@ -1,5 +1,5 @@
 // Numbers that look random, and are the same in every run.
-ghost use Rattle.std.specs.Prelude.{◌<◌, ◌≤◌, length};
+ghost use Rattle.std.specs.Prelude.{◌≡◌, ◌<◌, length, MatchOption};
 
 // One case of a run: the seed of the run, and which case it is.
 #[derive(Clone, Copy)]
@@ -34,7 +34,7 @@ impl Random {
 
     // A number below `end`; 0 where there is none.
     pub(crate) fn below(&mut self, end: u32) -> u32 {
-        self.place(end as usize) as u32
+        self.place(end as usize).unwrap_or(0) as u32
     }
 
     // A number from `low` to `high`.
@@ -48,19 +48,18 @@ impl Random {
         self.below(times) == 0
     }
 
-    // A place below `end`; 0 where there is none.
-    pub(crate) fn place(&mut self, end: usize) -> usize
-        ensures below { 0 < end → result < end }
-        ensures at_most { result ≤ end }
+    // A place below `end`, if there is one.
+    pub(crate) fn place(&mut self, end: usize) -> Option<usize>
+        ensures { MatchOption result (end ≡ 0) (λ place. place < end) }
     {
-        (self.draw() as usize).checked_rem(end).unwrap_or(0)
+        (self.draw() as usize).checked_rem(end)
     }
 
     // One of these.
     pub(crate) fn choice<T: Copy>(&mut self, all: &[T]) -> T
         requires { 0 < length all.now }
     {
-        all[self.place(all.len())]
+        all[self.place(all.len()).unwrap()]
     }
 
     // Any byte.

@@ -1,4 +1,6 @@
 // Plan files, read the long way: split into lines and fields, checked in order, row by row.
+ghost use Rattle.std.specs.Prelude.{◌≤◌};
+
 use super::plain::{Factor, Jobs, Layer, Nested, Plain, Suspension};
 use super::scan::{Found, rank_rows, scan_rows};
 use std::alloc::{AllocError, AllocFailed, Global};
@@ -127,13 +129,11 @@ fn number_at(fields: &[&[u8]], place: usize) -> Result<u32, Blame> {
     value.ok_or(Blame::Field(place.saturating_add(1), Check::Digits))
 }
 
-// The numbers that stand in the fields from a place on.
-fn numbers_at<const N: usize>(fields: &[&[u8]], place: usize) -> Result<[u32; N], Blame> {
-    let mut numbers = [0; N];
-    for (number, place) in numbers.iter_mut().zip(place..) {
-        *number = number_at(fields, place)?;
-    }
-    Ok(numbers)
+// The numbers that stand in the fields from a place on, up to eight.
+fn numbers_at<const N: usize>(fields: &[&[u8]], place: usize) -> Result<[u32; N], Blame>
+    requires { N ≤ 8 }
+{
+    array::try_from_fn(|i| number_at(fields, place.saturating_add(i)))
 }
 
 // The factor of a clock line.
@@ -145,7 +145,7 @@ fn clock_of(fields: &[&[u8]]) -> Result<Factor, Blame> {
         return Err(Blame::Line(Check::Fields));
     }
     let [numerator, denominator] = numbers_at::<2>(fields, 1)?;
-    if 1 <= denominator && denominator <= numerator && numerator <= 1000 {
+    if 1 <= denominator && (denominator..=1000).contains(&numerator) {
         Ok(Factor {
             numerator,
             denominator,
@@ -212,7 +212,7 @@ fn row_of(fields: &[&[u8]], clock: Factor) -> Result<Plain, Blame> {
 }
 
 fn is_length(n: u32) -> bool {
-    1 <= n && n <= 1_000_000
+    (1..=1_000_000).contains(&n)
 }
 
 fn has_sound_lengths(jobs: Jobs) -> bool {
@@ -225,7 +225,7 @@ fn has_sound_lengths(jobs: Jobs) -> bool {
 fn has_sound_period(jobs: Jobs) -> bool {
     match jobs {
         Jobs::Every { period, .. } => is_length(period),
-        Jobs::Heavy { among, period, .. } => is_length(period) && 2 <= among && among <= 64,
+        Jobs::Heavy { among, period, .. } => is_length(period) && (2..=64).contains(&among),
     }
 }
 
@@ -245,7 +245,7 @@ fn check_jobs(jobs: Jobs, delay: u32) -> Result<(), Check> {
 
 // The checks of a row among the rows above it in the file, but for lateness.
 fn check_row(rows: &[Plain], row: &Plain) -> Result<(), Check> {
-    let is_name = |n: u32| 1 <= n && n <= 255;
+    let is_name = |n: u32| (1..=255).contains(&n);
     if !is_name(row.number) || rows.iter().any(|other| other.number == row.number) {
         return Err(Check::Number);
     }

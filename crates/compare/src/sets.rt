@@ -3,9 +3,10 @@ use super::making::{Deal, some_row};
 use super::plain::{self, Jobs, Layer, Plain};
 use super::random::{Case, Random};
 use super::scan::{
-    Found, Late, Ranked, plan_bounds, plan_count, plan_vectors, rank_rows, report_of, scan_rows,
+    Found, Late, Ranked, Scanned, plan_count, plan_rows, plan_vectors, rank_rows, report_of,
+    scan_rows,
 };
-use analysis::{JudgeRefusal, Row, Task, judge};
+use analysis::{Answer, JudgeRefusal, Row, Task, judge};
 use anyhow::anyhow;
 use demand::{Delayed, Either, Every, Factor, Heavy, Left, Right, Slowed};
 use std::alloc::{AllocError, Global};
@@ -87,6 +88,17 @@ impl From<Late> for JudgeRefusal {
     }
 }
 
+impl From<&Answer> for Found {
+    fn from(answer: &Answer) -> Found {
+        Found {
+            number: answer.number,
+            bound: answer.bound,
+            vector: answer.vector,
+            blocking: answer.blocking,
+        }
+    }
+}
+
 // A kind under a layer.
 fn under<K>(layer: Layer, kind: K) -> Either<K, Either<Delayed<K>, Slowed<K>>> {
     match layer {
@@ -118,16 +130,14 @@ impl From<&Plain> for Task<TwoLayers> {
 fn some_rows(heap: Global, random: &mut Random) -> Result<Vec<Plain>, AllocError> {
     let count = random.within(1, 4);
     let deal = Deal::new(random);
-    let mut rows = Vec::new(heap);
-    for place in 0..count {
-        rows.push(some_row(random, deal, place))?;
-    }
-    Ok(rows)
+    (0..count)
+        .map(|place| some_row(random, deal, place))
+        .collect(heap)
 }
 
 // The rows with an empty place among them. The last row may be the newcomer.
 fn pass_rows(heap: Global, random: &mut Random, rows: &[Plain]) -> Result<Passed, AllocError> {
-    let empty = random.place(rows.len());
+    let empty = random.place(rows.len()).unwrap_or(0);
     let comes = random.one_in(3);
     let mut places: Vec<_> = rows.iter().map(|row| Some(Task::from(row))).collect(heap)?;
     places.insert(empty, None)?;
@@ -141,16 +151,7 @@ fn judged(heap: Global, set: &Passed) -> Result<Verdict, AllocError> {
         Ok(answers) => answers,
         Err(refusal) => return Ok(Err(refusal)),
     };
-    let found = answers
-        .rows()
-        .iter()
-        .map(|answer| Found {
-            number: answer.number,
-            bound: answer.bound,
-            vector: answer.vector,
-            blocking: answer.blocking,
-        })
-        .collect(heap)?;
+    let found = answers.rows().iter().map(Found::from).collect(heap)?;
     Ok(Ok(found))
 }
 
@@ -162,21 +163,21 @@ fn text_of(heap: Global, verdict: &Verdict) -> Result<String, AllocError> {
     }
 }
 
-// Whether no bound of a plan is smaller than the one that was found.
-fn none_smaller(bounds: &[u32], found: &[Found]) -> bool {
-    bounds.len() == found.len()
-        && bounds
+// Whether no bound under a plan is smaller than the one that was found.
+fn none_smaller(under: &[Found], found: &[Found]) -> bool {
+    under.len() == found.len()
+        && under
             .iter()
             .zip(found)
-            .all(|(bound, row)| *bound >= row.bound)
+            .all(|(under, row)| under.bound >= row.bound)
 }
 
-// Whether what was found can be true beside a plan that gives these bounds, or has a late row.
-fn stands_beside(verdict: &Verdict, bounds: &Option<Vec<u32>>) -> bool {
-    match (verdict, bounds) {
-        (_, None) => true,
-        (Ok(found), Some(bounds)) => none_smaller(bounds.as_slice(), found.as_slice()),
-        (Err(_), Some(_)) => false,
+// Whether what was found can be true beside what is found under a plan.
+fn stands_beside(verdict: &Verdict, plan: &Scanned) -> bool {
+    match (verdict, plan) {
+        (_, Err(_)) => true,
+        (Ok(found), Ok(under)) => none_smaller(under.as_slice(), found.as_slice()),
+        (Err(_), Ok(_)) => false,
     }
 }
 
@@ -184,20 +185,19 @@ fn stands_beside(verdict: &Verdict, bounds: &Option<Vec<u32>>) -> bool {
 fn has_better_plan(heap: Global, ranks: &[Ranked], verdict: &Verdict) -> Result<bool, AllocError> {
     for plan in 0..plan_count(ranks.len()) {
         let chosen = plan_vectors(heap, plan, ranks.len())?;
-        let bounds = plan_bounds(heap, ranks, chosen.as_slice())?;
-        if !stands_beside(verdict, &bounds) {
+        let under = plan_rows(heap, ranks, chosen.as_slice())?;
+        if !stands_beside(verdict, &under) {
             return Ok(true);
         }
     }
     Ok(false)
 }
 
-// Whether the plan of the vectors that were found gives the bounds that were found.
+// Whether the plan of the vectors that were found gives what was found.
 fn gives_itself(heap: Global, ranks: &[Ranked], found: &[Found]) -> Result<bool, AllocError> {
     let vectors: Vec<u32> = found.iter().map(|row| row.vector).collect(heap)?;
-    let due = found.iter().map(|row| row.bound).collect(heap)?;
-    let bounds = plan_bounds(heap, ranks, vectors.as_slice())?;
-    Ok(bounds == Some(due))
+    let under = plan_rows(heap, ranks, vectors.as_slice())?;
+    Ok(matches!(under, Ok(under) if under.as_slice() == found))
 }
 
 // Prints a set for which two answers differ.

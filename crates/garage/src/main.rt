@@ -15,23 +15,23 @@ use std::io;
 use table::Hold;
 use tell::{tell_bounds, tell_refusal, tell_room, tell_rows, tell_state, tell_withdrawal};
 
-// What is found out about the card of a row that is held.
-#[derive(Clone, Copy)]
-enum Card {
-    Known,
-    Unknown,
-}
-
-// A row is held, then kept if the card is known, else released. No print between may return early, since the hold would be lost.
-fn start(rt: &HostRuntime, desk: &mut Desk<'_>, task: Task<Every>, card: Card) -> io::Result<()> {
+// A row is held, and its hold is then spent: kept if the card is known, else given up. No print between may return early,
+// since the hold would be lost.
+fn start<'a, F>(
+    rt: &HostRuntime,
+    desk: &mut Desk<'a>,
+    task: Task<Every>,
+    spend: F,
+) -> io::Result<()>
+where
+    F: FnOnce(&mut Desk<'a>, Hold),
+    requires { (d : _) (h : _) → IsHolding d.now.table h → F.pre spend d h }
+{
     let number = task.row.number;
     match desk.take_in(task) {
         Ok(hold) => {
             let told = tell_state(rt, desk, number);
-            match card {
-                Card::Known => desk.keep(hold),
-                Card::Unknown => desk.give_up(hold),
-            }
+            spend(desk, hold);
             told?;
             tell_state(rt, desk, number)
         }
@@ -44,8 +44,9 @@ fn depart(rt: &HostRuntime, desk: &mut Desk<'_>, number: u32) -> io::Result<()> 
     tell_withdrawal(rt, number, left)
 }
 
-// A row is asked to leave while it is held, and then kept. One function with `start` would be passed what to do with the
-// hold, and would share the first line and the last arm alone.
+// A row is asked to leave while it is held, and then kept: `start` with one step more, since the answer to the withdrawal is
+// told between the two states of the row. One function for both would take a second closure, which tells what the first has
+// answered, and each `start` would pass one that tells nothing.
 fn depart_early(rt: &HostRuntime, desk: &mut Desk<'_>, task: Task<Every>) -> io::Result<()> {
     let number = task.row.number;
     match desk.take_in(task) {
@@ -96,30 +97,30 @@ fn second_table(rt: &HostRuntime, desk: &mut Desk<'_>) -> io::Result<()> {
 fn open(rt: &HostRuntime, desk: &mut Desk<'_>) -> io::Result<()> {
     tell_room(rt, desk, 1)?;
     println!(rt; "The meters start as row 1.")?;
-    start(rt, desk, meters(), Card::Known)?;
+    start(rt, desk, meters(), Desk::keep)?;
     println!(rt; "The card reader starts as row 2.")?;
-    start(rt, desk, card_reader(), Card::Known)?;
+    start(rt, desk, card_reader(), Desk::keep)?;
     tell_rows(rt, desk)
 }
 
 // One car with a known card, and one with an unknown card, which changes no bound.
 fn two_cars(rt: &HostRuntime, desk: &mut Desk<'_>) -> io::Result<()> {
     println!(rt; "A car with a known card is plugged in as row 3.")?;
-    start(rt, desk, car(3, 10, SLOW), Card::Known)?;
+    start(rt, desk, car(3, 10, SLOW), Desk::keep)?;
     tell_rows(rt, desk)?;
     println!(rt; "A car with an unknown card is plugged in as row 4.")?;
-    start(rt, desk, car(4, 9, SLOW), Card::Unknown)?;
+    start(rt, desk, car(4, 9, SLOW), Desk::give_up)?;
     tell_rows(rt, desk)
 }
 
 // A car that would make another late, and is taken after that one has left.
 fn wait_for_place(rt: &HostRuntime, desk: &mut Desk<'_>) -> io::Result<()> {
     println!(rt; "A fast car is plugged in as row 5.")?;
-    start(rt, desk, car(5, 15, FAST), Card::Known)?;
+    start(rt, desk, car(5, 15, FAST), Desk::keep)?;
     println!(rt; "The car of row 3 is unplugged.")?;
     depart(rt, desk, 3)?;
     println!(rt; "The fast car asks again.")?;
-    start(rt, desk, car(5, 15, FAST), Card::Known)?;
+    start(rt, desk, car(5, 15, FAST), Desk::keep)?;
     tell_rows(rt, desk)
 }
 

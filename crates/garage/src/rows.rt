@@ -20,10 +20,9 @@ fn row(number: u32, priority: u32, deadline: u32, lock: u32) -> Row {
     Row {
         number,
         priority,
-        suspension: 0,
-        suspensions: 0,
         deadline,
         sections: [lock, 0, 0, 0, 0, 0, 0, 0],
+        ..Row::default()
     }
 }
 

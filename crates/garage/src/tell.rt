@@ -3,7 +3,8 @@ use super::desk::Desk;
 use std::io;
 use table::{HoldRefusal, State, WithdrawRefusal};
 
-// A word for a state. `State` belongs to the library, so an `impl Display` cannot stand here.
+// A word for a state. `State` has no `Display`: its crate `table` prints nothing, and the words are this program's, where an
+// `impl` for a type of another crate cannot stand.
 fn state_word(state: State) -> &'static str {
     match state {
         State::Free => "free",

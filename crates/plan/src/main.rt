@@ -5,7 +5,8 @@ use analysis::{JudgeRefusal, Row, Task, judge};
 use demand::Every;
 use std::io;
 
-// A task whose row uses at most lock 0. The suspension is its total and how often, which a `Row` has as two numbers.
+// A task whose row uses at most lock 0. The suspension is how long a job suspends itself in all, and how often: a pair, which
+// keeps the two together in the short calls below, as the README shows them. A `Row` has them as two fields.
 fn task(
     number: u32,
     priority: u32,
