@@ -14,8 +14,8 @@ use std::{fs, io};
 fn print_answer(rt: &HostRuntime, name: &str) -> io::Result<()> {
     let file = fs::read(rt, name)?;
     let mut text = [0u8; REPORT_MEMORY];
-    let length = answer(file.as_slice(), &mut text).unwrap();
     println!(rt; "{name}")?;
+    let length = answer(file.as_slice(), &mut text).unwrap();
     rt.write_all(&text[0..length])
 }
 

@@ -1,7 +1,7 @@
 -- The word that names the kind says how many numbers there are.
 use Rattle.std.proofs.Common.{◌≡◌, ℕ, ◌-◌, ◌<◌, Bool, List, length, get_or, sym, refl, ap, ◌∙◌, arith}
 use Rattle.std.proofs.lemmas.Result.{err_from_is_err_and}
-use Rattle.demand.specs.Refusals.{first, heavy_checks}
+use Rattle.demand.specs.Refusals.{first, every_checks, heavy_checks}
 use Rattle.planfile.specs.declared.word.Word.{Word}
 use Rattle.planfile.specs.declared.word.Word.TheVariants.{Clock, Row, Every, Heavy, Other}
 use Rattle.planfile.specs.Fault.{by}
@@ -10,14 +10,17 @@ use Rattle.planfile.proofs.Blames.{stopped, passed, fault_numbered, numbered_num
 use Rattle.planfile.proofs.row.read_jobs.Goals as goal
 
 -- a word that names a kind, and not that of a heavy job, is that of jobs of one length
-every_due : (word : Word) → 0 < fields_due word → (word ≡ Heavy → ⊥) → fields_due word ≡ 18
-every_due Clock named other = absurd (omega arith)
-every_due Row named other = absurd (omega arith)
-every_due Every named other = refl
-every_due Heavy named other = absurd (other refl)
-every_due Other named other = absurd (omega arith)
+every_named : (word : Word) → 0 < fields_due word → (word ≡ Heavy → ⊥) → word ≡ Every
+every_named Clock named other = absurd (omega arith)
+every_named Row named other = absurd (omega arith)
+every_named Every named other = refl
+every_named Heavy named other = absurd (other refl)
+every_named Other named other = absurd (omega arith)
 
--- the checks of a heavy job, by its numbers
+-- the checks of jobs of one length, and of a heavy job, by their numbers
+every_by : List ℕ → List (Bool × ℕ)
+every_by ns = every_checks (get_or ns 0 0) (get_or ns 1 0)
+
 heavy_by : List ℕ → List (Bool × ℕ)
 heavy_by ns = heavy_checks (get_or ns 0 0) (get_or ns 1 0) (get_or ns 2 0) (get_or ns 3 0)
 
@@ -44,5 +47,19 @@ pub returns-in_err-job-in_default : goal.returns-in_err-job-in_default
 returns-in_err-job-in_default c =
     let fs = c.args.line.now in
     let p = err_from_is_err_and c.from_residual-in_err-job-in_default.result c.from_residual-in_err-job-in_default.ensures.1 in
-    let two : length fs - 16 ≡ 2 = omega (arith, c.requires.due, every_due c.args.kind c.requires.named c.in_default.not-Heavy) in
+    let word : c.args.kind ≡ Every = every_named c.args.kind c.requires.named c.in_default.not-Heavy in
+    let two : length fs - 16 ≡ 2 = omega (arith, c.requires.due, ap fields_due word) in
     rw (p.1, p.2, two) (stopped (number_checks fs 17 2) (blaming_none (jobs_checks (jobs_in fs c.args.kind))) _ (fault_numbered _) c.in_err-job-in_default.ensures)
+
+pub returns-in_err-new-in_default : goal.returns-in_err-new-in_default
+unfolding every_by
+returns-in_err-new-in_default c =
+    let fs = c.args.line.now in
+    let p = err_from_is_err_and c.from_residual-in_err-new-in_default.result c.from_residual-in_err-new-in_default.ensures.1 in
+    let numbers = c.in_ok-job-in_default.ensures in
+    let word : c.args.kind ≡ Every = every_named c.args.kind c.requires.named c.in_default.not-Heavy in
+    let two : length fs - 16 ≡ 2 = omega (arith, c.requires.due, ap fields_due word) in
+    let checks = every_by (numbers_in fs 17 2) in
+    rw (p.1, p.2, two, word)
+    (passed (number_checks fs 17 2) (blaming_none checks) (numbered_numbers fs 17 2) numbers.0
+    ∙ (first_of_none checks ∙ ap by (sym (c.in_err-new-in_default.ensures.refusal ∙ ap (λ ns. first (every_by ns)) numbers.1))))
