@@ -110,6 +110,31 @@ fn with_lines(heap: Global, random: &mut Random, file: &[u8]) -> Result<Vec<u8>,
     lines.concat(heap)
 }
 
+// Another byte at the place, if there is one.
+fn change_byte(random: &mut Random, file: &mut Vec<u8>, place: Option<usize>)
+    requires { IfSome place (λ at. at < length file.old.items) }
+{
+    let other = some_byte(random);
+    if let Some(place) = place {
+        file[place] = other;
+    }
+}
+
+// One byte more at the place, if there is one.
+fn insert_byte(
+    random: &mut Random,
+    file: &mut Vec<u8>,
+    place: Option<usize>,
+) -> Result<(), AllocError>
+    requires { IfSome place (λ at. at < length file.old.items) }
+{
+    let more = some_byte(random);
+    if let Some(place) = place {
+        file.insert(place, more)?;
+    }
+    Ok(())
+}
+
 // Does some damage to the file.
 pub(crate) fn damage(
     heap: Global,
@@ -124,23 +149,13 @@ pub(crate) fn damage(
         return add_zeros(file, field, length.saturating_sub(file.len()));
     }
     match random.below(12) {
-        0 => {
-            let other = some_byte(random);
-            if let Some(place) = chosen {
-                file[place] = other;
-            }
-        }
+        0 => change_byte(random, file, chosen),
         1 => {
             if let Some(place) = chosen {
                 file.remove(place);
             }
         }
-        2 => {
-            let more = some_byte(random);
-            if let Some(place) = chosen {
-                file.insert(place, more)?;
-            }
-        }
+        2 => insert_byte(random, file, chosen)?,
         3 => replace_end(file, field, b' '),
         4 => replace_end(file, field, b'\n'),
         5 => {

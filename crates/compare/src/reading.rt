@@ -301,7 +301,7 @@ fn found_in_lines(heap: Global, text: &[u8]) -> Result<Vec<Found>, Unread> {
     let clock = clock_of(first.as_slice()).map_err(|blame| Refusal::Line(1, blame))?;
     let mut rows = Vec::new(heap);
     let mut found = Vec::new(heap);
-    for (number, line) in (1..).zip(&lines).skip(1) {
+    for (number, line) in (2..).zip(lines.iter().skip(1)) {
         found = take_line(heap, number, line, clock, &mut rows)?;
     }
     Ok(found)

@@ -29,7 +29,8 @@ struct Passed {
 // What is answered for a set.
 type Verdict = Result<Vec<Found>, JudgeRefusal>;
 
-// What was seen of a set: whether a row is late, and how many plans were tried.
+// What was seen of a set: whether a row is late, and how many plans were tried. Each set has both, and neither
+// depends on the other.
 #[derive(Clone, Copy)]
 pub(crate) struct SetSeen {
     pub(crate) late: bool,
