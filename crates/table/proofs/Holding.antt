@@ -56,20 +56,25 @@ module _ (a : Account) (c : Claim) where
       first_behind 5 9 (row_checks a c) ((leb a.room (length a.rows), 10) ∷ []) (omega arith) (row_numbered a c) z
       ∙ ap (λ (x : Bool). cond x 10 0) e
 
+  -- a row whose numbers pass is refused where the account has no room
+  pub no_place : first (row_checks a c) ≡ 0 → leb a.room (length a.rows) ≡ true → Refused a c NoPlace
+  no_place z e = record { by_number = behind z true e; late = λ q. absurd (omega arith) }
+
+  -- and passes all checks where it has
+  pub passes : first (row_checks a c) ≡ 0 → leb a.room (length a.rows) ≡ false → first (hold_checks a c) ≡ 0
+  passes z e = behind z false e
+
   pub refused_late : (n : ℕ) → first (hold_checks a c) ≡ 0 → LateRow (loads (ranked (c ∷ a.rows))) n → Refused a c (Late n)
   refused_late n z l = record { by_number = z; late = λ q. l }
 
 module _ {K : Type 0} {demand : K → Demand} {a : Account} (t : Table K) (agrees : AgreesWith demand a t) (c : Claim) (early : 0 ≡ first (row_checks a c)) (r : Option ℕ) (place : PlaceWhere t (λ s. s ≡ Free) r) where
-  -- a row whose numbers pass is refused where no place is free
-  pub no_place : r ≡ None → Refused a c NoPlace
-  no_place none = record {
-    by_number = behind a c (sym early) true (place_free t agrees r place ∙ ap (λ o. not (is_some o)) none);
-    late = λ q. absurd (omega arith);
-  }
+  -- so it is refused where no place was found
+  pub no_place_found : r ≡ None → Refused a c NoPlace
+  no_place_found none = no_place a c (sym early) (place_free t agrees r place ∙ ap (λ o. not (is_some o)) none)
 
-  -- and passes all checks where one is free
-  pub passes : (p : ℕ) → r ≡ Some p → first (hold_checks a c) ≡ 0
-  passes p some = behind a c (sym early) false (place_free t agrees r place ∙ ap (λ o. not (is_some o)) some)
+  -- and passes where one was
+  pub place_found : (p : ℕ) → r ≡ Some p → first (hold_checks a c) ≡ 0
+  place_found p some = passes a c (sym early) (place_free t agrees r place ∙ ap (λ o. not (is_some o)) some)
 
 -- a newcomer that is judged to be late
 pub refused_judged : {K : Type 0} {demand : K → Demand} {a : Account} (t : Table K) → AgreesWith demand a t → (u : Task K) → first (hold_checks a (record { row = u.row; demand = demand u.kind })) ≡ 0 → (j : JudgeRefusal) → Judged (claims demand (tasks t) (Some u)) (Err j) → Refused a (record { row = u.row; demand = demand u.kind }) (as_refusal j)

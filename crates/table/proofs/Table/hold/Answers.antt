@@ -9,7 +9,7 @@ use Rattle.table.specs.declared.State.TheVariants.{Free}
 use Rattle.table.specs.Account.{hold_number, with_row}
 use Rattle.table.specs.Places.{At}
 use Rattle.table.proofs.Changes.{row_in}
-use Rattle.table.proofs.Holding.{refused_early, no_place, passes, refused_judged}
+use Rattle.table.proofs.Holding.{refused_early, no_place_found, place_found, refused_judged}
 use Rattle.table.proofs.Judgements.{newcomer_in_time}
 use Rattle.table.proofs.Table.hold.Goals as goal
 
@@ -25,7 +25,7 @@ returns-in_err-place-clause-account g c a agrees =
     let claim : Claim = record { row = c.args.row; demand = g.K.Kind.demand c.args.kind } in
     let none : c.place_in.result ≡ None = grind (arith, c.in_err-place.ensures.value) in
     let refusal : c.in_err-place.field-0.0 ≡ NoPlace = grind (arith, c.in_err-place.ensures.value) in
-    let full = no_place c.args.self.now agrees claim (c.in_ok-check_row.ensures a agrees) c.place_in.result c.place_in.ensures none in
+    let full = no_place_found c.args.self.now agrees claim (c.in_ok-check_row.ensures a agrees) c.place_in.result c.place_in.ensures none in
     (a, rw (e.1, e.2, refusal) (full, refl), agrees)
 
 pub returns-in_err-judge-clause-account : goal.returns-in_err-judge-clause-account
@@ -34,7 +34,7 @@ returns-in_err-judge-clause-account g c a agrees =
     let claim : Claim = record { row = c.args.row; demand = g.K.Kind.demand c.args.kind } in
     let task : Task g.row.K.Denot = record { row = c.args.row; kind = c.args.kind } in
     let some : c.place_in.result ≡ Some c.in_ok-place.place = grind (arith, c.in_ok-place.ensures.value) in
-    let pass = passes c.args.self.now agrees claim (c.in_ok-check_row.ensures a agrees) c.place_in.result c.place_in.ensures c.in_ok-place.place some in
+    let pass = place_found c.args.self.now agrees claim (c.in_ok-check_row.ensures a agrees) c.place_in.result c.place_in.ensures c.in_ok-place.place some in
     let judged = subst (λ os. Judged (claims g.K.Kind.demand os (Some task)) (Err c.in_err-judge.field-0.0)) c.used.ensures c.in_err-judge.ensures.judged in
     (a, rw (e.1, e.2) (refused_judged c.args.self.now agrees task pass c.in_err-judge.field-0.0 judged, refl), agrees)
 
@@ -43,7 +43,7 @@ returns-clause-account g c a agrees =
     let claim : Claim = record { row = c.args.row; demand = g.K.Kind.demand c.args.kind } in
     let task : Task g.row.K.Denot = record { row = c.args.row; kind = c.args.kind } in
     let some : c.place_in.result ≡ Some c.in_ok-place.place = grind (arith, c.in_ok-place.ensures.value) in
-    let pass = passes c.args.self.now agrees claim (c.in_ok-check_row.ensures a agrees) c.place_in.result c.place_in.ensures c.in_ok-place.place some in
+    let pass = place_found c.args.self.now agrees claim (c.in_ok-check_row.ensures a agrees) c.place_in.result c.place_in.ensures c.in_ok-place.place some in
     let judged = subst (λ os. Judged (claims g.K.Kind.demand os (Some task)) (Ok c.in_ok-judge.field-0)) c.used.ensures c.in_ok-judge.ensures.judged in
     let in_time = newcomer_in_time c.args.self.now agrees task pass c.in_ok-judge.field-0 judged in
     let at : At c.args.self.now (λ s. s ≡ Free) c.in_ok-place.place = search rules in (
