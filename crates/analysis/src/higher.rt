@@ -23,9 +23,6 @@ impl<K: Kind> Higher<'_, K> {
     pub(crate) fn work(&self, window: u32) -> u32
         ensures { result ≡ (kind_demand K.demand self.now.kind).work window }
     {
-        match self.kind {
-            Some(kind) => kind.work(window),
-            None => 0,
-        }
+        self.kind.map_or(0, |kind| kind.work(window))
     }
 }

@@ -19,10 +19,7 @@ fn jobs_of<K: Kind>(kind: Option<&K>) -> (u32, u32)
     ensures own { result.0 ≡ (kind_demand K.demand kind.entry).own }
     ensures least { result.1 ≡ (kind_demand K.demand kind.entry).least }
 {
-    match kind {
-        Some(kind) => (kind.own(), kind.least()),
-        None => (0, 0),
-    }
+    kind.map_or((0, 0), |kind| (kind.own(), kind.least()))
 }
 
 impl<'a, K: Kind> Candidates<'a, K> {

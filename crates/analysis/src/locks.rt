@@ -36,8 +36,8 @@ fn blocking_section(section: u32, ceiling: Option<u32>, priority: u32) -> u32
     }
 }
 
-// The longest section of the row on a lock whose ceiling is at least the priority. Ceilings and priority go on together to
-// this function alone, for which a struct would be no plainer.
+// The longest section of the row on a lock whose ceiling is at least the priority. Ceilings and priority go on
+// together from `longest_of_all` to here and no further: no plainer as a struct.
 fn longest_section(ceilings: &[Option<u32>; LOCKS], priority: u32, row: &Row) -> u32
     ensures { result ≡ longest_of (λ lock. get_or ceilings.now lock None) priority row.now 8 }
 {

@@ -110,7 +110,7 @@ fn with_lines(heap: Global, random: &mut Random, file: &[u8]) -> Result<Vec<u8>,
     lines.concat(heap)
 }
 
-// Another byte at the place, if there is one.
+// Another byte at the place, if there is one. As for one byte more: a function for both would be passed a closure.
 fn change_byte(random: &mut Random, file: &mut Vec<u8>, place: Option<usize>)
     requires { IfSome place (λ at. at < length file.old.items) }
 {
@@ -142,6 +142,7 @@ pub(crate) fn damage(
     file: &mut Vec<u8>,
 ) -> Result<(), AllocError> {
     let chosen = random.place(file.len());
+    // 0 where there is no field, as then none is found
     let field = random.place(count_fields(file.as_slice())).unwrap_or(0);
     if random.one_in(50) {
         // as long as a file may be, or a little shorter or longer

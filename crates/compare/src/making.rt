@@ -184,6 +184,7 @@ pub(crate) fn file_row(random: &mut Random, clock: Factor, deal: Deal, place: u3
         outer: Layer::Slow(clock),
     };
     let suspension = some_suspension(random);
+    // both are at most 2,000,000, so neither becomes 0 here
     let spacing = u32::try_from(kind.spacing()).unwrap_or(0);
     let own = u32::try_from(kind.own()).unwrap_or(0);
     Plain {

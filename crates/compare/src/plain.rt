@@ -1,4 +1,5 @@
-// Rows and kinds as plain numbers, and what a kind answers, worked out the long way.
+// Rows and kinds as plain numbers, and what a kind answers, worked out the long way. No type here is the planner's: this side
+// is written apart from it, so that a mistake there is not repeated here.
 ghost use Rattle.std.specs.Prelude.{◌<◌};
 
 use std::alloc::{AllocError, Global};

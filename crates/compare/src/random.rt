@@ -32,7 +32,7 @@ impl Random {
         ((twice >> 32) & 0xffff_ffff) as u32
     }
 
-    // A number below `end`; 0 where there is none.
+    // A number below `end`; 0 where there is none, which no caller asks for. To have them show it would be no plainer.
     pub(crate) fn below(&mut self, end: u32) -> u32 {
         self.place(end as usize).unwrap_or(0) as u32
     }

@@ -64,6 +64,7 @@ impl From<Check> for Blame {
     }
 }
 
+// By hand, since what would write these wants a message for each variant, which nobody prints.
 impl From<Refusal> for Unread {
     fn from(refusal: Refusal) -> Unread {
         Unread::Refused(refusal)
@@ -314,7 +315,8 @@ fn found_in(heap: Global, file: &[u8]) -> Result<Vec<Found>, Unread> {
     }
 }
 
-// What is found for the rows of a file, or what it is refused for.
+// What is found for the rows of a file, or what it is refused for. An answer within an answer, since a refusal is compared and
+// a want of memory is not.
 pub(crate) fn read_plan(
     heap: Global,
     file: &[u8],

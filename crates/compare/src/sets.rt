@@ -138,7 +138,7 @@ fn some_rows(heap: Global, random: &mut Random) -> Result<Vec<Plain>, AllocError
 
 // The rows with an empty place among them. The last row may be the newcomer.
 fn pass_rows(heap: Global, random: &mut Random, rows: &[Plain]) -> Result<Passed, AllocError> {
-    let empty = random.place(rows.len()).unwrap_or(0);
+    let empty = random.place(rows.len()).unwrap_or(0); // there is always a row
     let comes = random.one_in(3);
     let mut places: Vec<_> = rows.iter().map(|row| Some(Task::from(row))).collect(heap)?;
     places.insert(empty, None)?;

@@ -35,23 +35,16 @@ impl Heavy {
         })
     }
 
-    // The total of consecutive jobs that begin with a heavy one.
-    fn from_heavy(&self, jobs: u64) -> u64
+    // The largest total of consecutive jobs: that of those that begin with a heavy one, since no others take more.
+    fn largest_total(&self, jobs: u64) -> u64
         requires { jobs < 2 ^ 32 }
-        ensures { result ≡ from_heavy (length_of_job self.now.job) (length_of_heavy self.now.job self.now.heavy) (length_of_pattern self.now.among) jobs }
+        ensures from_heavy { result ≡ from_heavy (length_of_job self.now.job) (length_of_heavy self.now.job self.now.heavy) (length_of_pattern self.now.among) jobs }
+        ensures largest { result ≡ largest_total (length_of_job self.now.job) (length_of_heavy self.now.job self.now.heavy) (length_of_pattern self.now.among) jobs }
     {
         let job = u64::from(self.least());
         let heavy = u64::from(self.own());
         let among = u64::from(self.among.clamp(2, 64));
         jobs * job + rounded_up(jobs, among) * (heavy - job)
-    }
-
-    // The largest total of consecutive jobs: none take more than those that begin with a heavy one.
-    fn largest_total(&self, jobs: u64) -> u64
-        requires { jobs < 2 ^ 32 }
-        ensures { result ≡ largest_total (length_of_job self.now.job) (length_of_heavy self.now.job self.now.heavy) (length_of_pattern self.now.among) jobs }
-    {
-        self.from_heavy(jobs)
     }
 }
 
@@ -60,6 +53,7 @@ impl Kind for Heavy {
 
     ghost lawful = { λ k. heavy_lawful k.job k.heavy k.among k.period };
 
+    // as for `Every`: one line, and no plainer as a function of both
     fn spacing(&self) -> u32 {
         self.period.clamp(1, LONGEST)
     }

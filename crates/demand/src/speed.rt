@@ -22,6 +22,7 @@ impl Factor {
         ensures refusal { answer_number result ≡ first (slowed_checks numerator denominator) }
         ensures fields { IfOk result (λ f. (f.numerator ≡ numerator) × (f.denominator ≡ denominator)) }
     {
+        // one chain of numbers, from 1 to the largest: no plainer as ranges
         if denominator < 1 || numerator < denominator || LARGEST < numerator {
             return Err(KindRefusal::Speed);
         }
@@ -71,7 +72,8 @@ pub struct Slowed<K> {
 }
 
 impl<K: Kind + Drop> Slowed<K> {
-    // The two numbers come apart, as those of a kind do, and are a factor from here on.
+    // Two numbers, as for the other kinds. A caller that had to make a factor first, and take its refusal, would be no
+    // plainer.
     pub fn new(kind: K, numerator: u32, denominator: u32) -> Result<Slowed<K>, KindRefusal>
         ensures refusal { answer_number result ≡ first (slowed_checks numerator denominator) }
         ensures fields { IfOk result (λ k. (k.kind ≡ kind) × (k.factor.numerator ≡ numerator) × (k.factor.denominator ≡ denominator)) }

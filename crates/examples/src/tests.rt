@@ -1,5 +1,5 @@
 // Bad input, and input at its limits, run on the code.
-use planfile::{Fault, LONGEST_FILE, REPORT_MEMORY, load, write_refusal};
+use planfile::{Blame, Fault, LONGEST_FILE, REPORT_MEMORY, load, write_refusal};
 use std::alloc::{AllocError, Global};
 use std::process::Abort;
 use std::test::Fail;
@@ -18,42 +18,30 @@ row\t3\t10\t0\t0\t40\t0\t2\t0\t0\t0\t0\t0\t0\t0\tevery\t5\t40\n";
 
 const GARAGE_REPORT: &[u8] = b"row\t1\t9\t0\t4\nrow\t2\t9\t0\t2\nrow\t3\t14\t2\t0\n";
 
-// What a fault says: the numbers of its check, line, field and late row, where 0 says that none is to blame. They are the four
-// numbers of a refusal line, and no enum, since the tests are to see a 0 wherever nothing is to blame: an enum has no case
-// for a fault that names both a field and a late row, or a field and no line.
-#[derive(Clone, Copy, PartialEq, Eq, Debug)]
-struct Blame {
-    check: u32,
-    line: u32,
-    field: u32,
-    late: u32,
-}
-
-impl From<Fault> for Blame {
-    fn from(fault: Fault) -> Blame {
-        Blame {
-            check: fault.number(),
-            line: fault.line(),
-            field: fault.field(),
-            late: fault.late(),
-        }
+// What a fault answers to the four calls that ask for one number each.
+fn blame(fault: Fault) -> Blame {
+    Blame {
+        number: fault.number(),
+        line: fault.line(),
+        field: fault.field(),
+        late: fault.late(),
     }
 }
 
 // A fault of the file as a whole.
-fn file(check: u32) -> Blame {
-    line(check, 0)
+fn file(number: u32) -> Blame {
+    line(number, 0)
 }
 
 // A fault of a line as a whole.
-fn line(check: u32, line: u32) -> Blame {
-    field(check, line, 0)
+fn line(number: u32, line: u32) -> Blame {
+    field(number, line, 0)
 }
 
 // A fault of a field of a line.
-fn field(check: u32, line: u32, field: u32) -> Blame {
+fn field(number: u32, line: u32, field: u32) -> Blame {
     Blame {
-        check,
+        number,
         line,
         field,
         late: 0,
@@ -61,9 +49,9 @@ fn field(check: u32, line: u32, field: u32) -> Blame {
 }
 
 // A fault of a line with which a row is late.
-fn late(check: u32, line: u32, late: u32) -> Blame {
+fn late(number: u32, line: u32, late: u32) -> Blame {
     Blame {
-        check,
+        number,
         line,
         field: 0,
         late,
@@ -72,7 +60,7 @@ fn late(check: u32, line: u32, late: u32) -> Blame {
 
 // A call's answer: the length of what was written, or what is blamed.
 fn said(answer: Result<usize, Fault>) -> Result<usize, Blame> {
-    answer.map_err(Blame::from)
+    answer.map_err(blame)
 }
 
 // What a file is refused for, if it is refused.

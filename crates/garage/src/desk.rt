@@ -13,6 +13,8 @@ pub(crate) struct Desk<'a> {
     ghost accounted: { IsAccounted table },
 }
 
+// That a hold is one of this desk's stands in the contracts, and in no struct of the two, which would be no plainer: `mix_up`
+// hands the hold of one desk to another.
 impl<'a> Desk<'a> {
     pub(crate) fn new(number: u8, places: &'a mut [Option<Task<Every>>]) -> Desk<'a> {
         Desk {
@@ -27,7 +29,7 @@ impl<'a> Desk<'a> {
         self.table.hold(task.row, task.kind)
     }
 
-    // Keeps the row of a hold.
+    // Keeps the row of a hold. As `give_up`, a line: one function for both would be passed the call.
     pub(crate) fn keep(&mut self, hold: Hold)
         requires { IsHolding self.old.table hold }
     {

@@ -45,8 +45,8 @@ fn depart(rt: &HostRuntime, desk: &mut Desk<'_>, number: u32) -> io::Result<()> 
 }
 
 // A row is asked to leave while it is held, and then kept: `start` with one step more, since the answer to the withdrawal is
-// told between the two states of the row. One function for both would take a second closure, which tells what the first has
-// answered, and each `start` would pass one that tells nothing.
+// told between the two states of the row. One function for both would be passed closures with an answer to be told, and each
+// `start` would pass one that has nothing to tell: no plainer.
 fn depart_early(rt: &HostRuntime, desk: &mut Desk<'_>, task: Task<Every>) -> io::Result<()> {
     let number = task.row.number;
     match desk.take_in(task) {

@@ -3,8 +3,8 @@ use super::desk::Desk;
 use std::io;
 use table::{HoldRefusal, State, WithdrawRefusal};
 
-// A word for a state. `State` has no `Display`: its crate `table` prints nothing, and the words are this program's, where an
-// `impl` for a type of another crate cannot stand.
+// A word for a state. `State` is of the crate `table`, which prints nothing, and an `impl Display` of it is refused here. A
+// type around it would be no plainer.
 fn state_word(state: State) -> &'static str {
     match state {
         State::Free => "free",

@@ -38,7 +38,7 @@ pub enum Fault {
 
 // What a fault says: the number of the check that applies, the line and the field that are to blame, and the row that would
 // be late. Lines and fields count from 1. Where there is none it is 0, as it is printed, and as the definitions have it.
-#[derive(Clone, Copy, PartialEq, Eq, Debug)]
+#[derive(Clone, Copy, Default, PartialEq, Eq, Debug)]
 pub struct Blame {
     pub number: u32,
     pub line: u32,
@@ -69,9 +69,7 @@ fn by(number: u32) -> Blame
 {
     Blame {
         number,
-        line: 0,
-        field: 0,
-        late: 0,
+        ..Blame::default()
     }
 }
 
@@ -86,7 +84,7 @@ fn late_row(refusal: HoldRefusal) -> u32
 }
 
 impl LineFault {
-    // What it says before its line is known.
+    // What it says before its line is known. A cast gives no number to a fault that has a value in it, so a match says it.
     fn blame(self) -> Blame
         ensures { result ≡ line_blame self }
     {

@@ -28,7 +28,8 @@ fn check_file(file: &[u8], room: usize) -> Result<(), Fault>
     Ok(())
 }
 
-// The number of the row line of this index. Line 1 is the clock line.
+// The number of the row line of this index. Line 1 is the clock line. What is proved of the lines goes by their index, so
+// numbers that are counted beside them would be no plainer.
 fn number_of_row(index: usize) -> u32
     requires { index < 4096 }
     ensures { result ≡ index + 2 }

@@ -57,7 +57,8 @@ pub(crate) fn read_clock(line: &Line) -> Result<Factor, LineFault>
     Ok(Factor::new(numerator, denominator)?)
 }
 
-// Checks the words of a row line and how many fields it has. The answer is the word that names the kind.
+// Checks the words of a row line and how many fields it has. The answer is the word that names the kind. The first lines are
+// as for a clock line, but for the word: no plainer as a function of both.
 fn check_words(line: &Line) -> Result<Word, LineFault>
     ensures { Reads (word_checks line.now) (word_of (field 16 line.now)) result }
 {

@@ -9,7 +9,8 @@ use analysis::Answer;
 use arrayvec::ArrayString;
 use itoa::Buffer;
 
-// A text that is composed before it is written. Every report fits.
+// A text that is composed before it is written. Every report fits. That there is room is asked by each function of what it
+// appends, which differs, so no type says it.
 type Text = ArrayString<REPORT_MEMORY>;
 
 // Appends a tab and a number.
@@ -38,10 +39,13 @@ fn push_row(text: &mut Text, answer: &Answer)
     requires { HasRoom text.old (report_line answer.now) }
     ensures { Appended text.old (report_line answer.now) text.new }
 {
-    let number = u64::from(answer.number);
-    let bound = u64::from(answer.bound);
-    let vector = u64::from(answer.vector);
-    push_line(text, "row", &[number, bound, vector, answer.blocking]);
+    let numbers = [
+        u64::from(answer.number),
+        u64::from(answer.bound),
+        u64::from(answer.vector),
+        answer.blocking,
+    ];
+    push_line(text, "row", &numbers);
 }
 
 // The report of these answers.
@@ -82,11 +86,14 @@ pub fn write_refusal(fault: Fault, out: &mut [u8]) -> Result<usize, Fault>
     if out.len() < REPORT_MEMORY {
         return Err(Fault::ReportMemory);
     }
-    let line = u64::from(fault.line());
-    let field = u64::from(fault.field());
-    let number = u64::from(fault.number());
-    let late = u64::from(fault.late());
+    let blame = fault.blame();
+    let numbers = [
+        u64::from(blame.line),
+        u64::from(blame.field),
+        u64::from(blame.number),
+        u64::from(blame.late),
+    ];
     let mut text = Text::new();
-    push_line(&mut text, "refused", &[line, field, number, late]);
+    push_line(&mut text, "refused", &numbers);
     Ok(write_text(&text, out))
 }

@@ -67,7 +67,7 @@ impl<'a, K: Kind + Drop> Table<'a, K> {
         if 1_000_000 < row.suspension || 63 < row.suspensions || lone {
             return Err(HoldRefusal::Suspension);
         }
-        if row.deadline == 0 || kind.spacing() < row.deadline {
+        if !(1..=kind.spacing()).contains(&row.deadline) {
             return Err(HoldRefusal::Deadline);
         }
         if any_longer(&row.sections, kind.own()) {

@@ -15,10 +15,8 @@ fn row(number: u32) -> Row {
     Row {
         number,
         priority: number.clamp(1, 255),
-        suspension: 0,
-        suspensions: 0,
         deadline: 900,
-        sections: [0; 8],
+        ..Row::default()
     }
 }
 

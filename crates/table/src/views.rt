@@ -91,6 +91,7 @@ impl<'a, K: Kind + Drop> Table<'a, K> {
     pub fn state_of(&self, number: u32) -> State
         ensures { (a : Account) → AgreesWith K.demand a self.now → StateOf a number result }
     {
+        // A match: `map_or` was tried, and the check does not find what its closure says of the place.
         match self.place_of(number) {
             Some(place) => self.states[place],
             None => State::Free,

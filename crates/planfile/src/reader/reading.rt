@@ -25,7 +25,7 @@ impl<'a> Reader<'a> {
         let _ = self.kept.try_push(field);
     }
 
-    // Takes a byte, which stands at this place.
+    // Takes a byte, which stands at this place. One match on state and byte is a form that was settled.
     fn step(&mut self, at: usize, byte: u8)
         requires inside { at < length self.old.text.now }
         requires byte { byte ≡ slice_index self.old.text.now at }
@@ -89,7 +89,7 @@ impl<'a> Line<'a> {
         self.count
     }
 
-    // The first field. There is always one.
+    // The first field. There is always one, which each `field(1)` would have to show.
     pub(crate) fn first(&self) -> &'a [u8]
         ensures { result.now ≡ field 1 self.now }
     {

@@ -13,8 +13,8 @@ fits a b c d p q r s = omega (arith, length_line (codes "refused") a b c d, ten_
 
 pub push_line-requires : goal.push_line-requires
 push_line-requires c =
-    omega (arith, ap length c.new-text.ensures, fits c.from-line.result c.from-field.result c.from-number.result c.from-late.result (omega arith) (omega arith) (omega arith) (omega arith))
+    omega (arith, ap length c.new-text.ensures, fits c.from.result c.from-2.result c.from-3.result c.from-4.result (omega arith) (omega arith) (omega arith) (omega arith))
 
 pub write_text-requires : goal.write_text-requires
 write_text-requires c =
-    omega (arith, simp c.new-text.ensures at (ap length c.push_line.ensures), fits c.from-line.result c.from-field.result c.from-number.result c.from-late.result (omega arith) (omega arith) (omega arith) (omega arith))
+    omega (arith, simp c.new-text.ensures at (ap length c.push_line.ensures), fits c.from.result c.from-2.result c.from-3.result c.from-4.result (omega arith) (omega arith) (omega arith) (omega arith))
