@@ -146,7 +146,7 @@ fn pass_rows(heap: Global, random: &mut Random, rows: &[Plain]) -> Result<Passed
     Ok(Passed { places, newcomer })
 }
 
-// What `judge` answers.
+// What `judge` answers. An answer within an answer: a refusal is compared, and a want of memory is not.
 fn judged(heap: Global, set: &Passed) -> Result<Verdict, AllocError> {
     let answers = match judge(set.places.as_slice(), &set.newcomer) {
         Ok(answers) => answers,
