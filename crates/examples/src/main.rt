@@ -1,4 +1,4 @@
-// Prints the name of each example plan file, and what `plan_stdin` prints for it.
+// Prints the name of each example plan file, and what `plan` prints for it.
 #![tactic(auto)]
 
 mod files;
@@ -9,7 +9,7 @@ use files::FILES;
 use planfile::{REPORT_MEMORY, answer};
 use std::{fs, io};
 
-// `plan_stdin` prints the same of the bytes that it reads. The two are programs, and a library for these lines alone would
+// `plan` prints the same of the bytes that it reads. The two are programs, and a library for these lines alone would
 // be a crate more.
 fn print_answer(rt: &HostRuntime, name: &str) -> io::Result<()> {
     let file = fs::read(rt, name)?;

@@ -1,46 +1,42 @@
-// Judges a built-in garage of three rows, and prints what was found.
+// Reads a plan file from standard input, and prints its report or the line of its refusal.
 #![tactic(auto)]
 
-use analysis::{JudgeRefusal, Row, Task, judge};
-use demand::Every;
-use std::io;
+mod help;
 
-// A task whose row uses at most lock 0. The suspension is how long a job suspends itself in all, and how often: a pair, which
-// keeps the two together in the short calls below, as the README shows them. A `Row` has them as two fields.
-fn task(
-    number: u32,
-    priority: u32,
-    (suspension, suspensions): (u32, u32),
-    deadline: u32,
-    lock: u32,
-    kind: Every,
-) -> Option<Task<Every>> {
-    let row = Row {
-        number,
-        priority,
-        suspension,
-        suspensions,
-        deadline,
-        sections: [lock, 0, 0, 0, 0, 0, 0, 0],
-    };
-    Some(Task { row, kind })
+use anyhow::anyhow;
+use help::HELP;
+use planfile::{LONGEST_FILE, REPORT_MEMORY, answer};
+use std::io::Read;
+use std::{env, io};
+
+// The bytes on standard input. One more is read than a file may have, so that a longer file is seen and an endless one is not awaited.
+fn read_file(rt: &HostRuntime) -> io::Result<Vec<u8>> {
+    let mut file = Vec::new(rt.alloc());
+    rt.stdin()
+        .take(LONGEST_FILE as u64 + 1)
+        .read_to_end(&mut file)?;
+    Ok(file)
 }
 
-fn main(rt: HostRuntime) -> io::Result<()> {
-    let meters = task(1, 30, (3, 1), 10, 1, Every { job: 2, period: 10 });
-    let card_reader = task(2, 20, (0, 0), 15, 0, Every { job: 3, period: 16 });
-    let car = task(3, 10, (0, 0), 40, 2, Every { job: 5, period: 40 });
-    match judge(&[meters, card_reader, car], &None) {
-        Ok(answers) => {
-            for answer in answers.rows() {
-                println!(rt;
-                    "row\t{}\t{}\t{}\t{}",
-                    answer.number, answer.bound, answer.vector, answer.blocking
-                )?;
-            }
-            Ok(())
-        }
-        Err(JudgeRefusal::Late(number)) => println!(rt; "late\t{number}"),
-        Err(JudgeRefusal::TooMany) => println!(rt; "too many rows"),
+// `examples` prints the same of the files that it has. The two are programs, and a library for these lines alone would be a
+// crate more.
+fn print_answer(rt: &HostRuntime) -> io::Result<()> {
+    let file = read_file(rt)?;
+    let mut text = [0u8; REPORT_MEMORY];
+    let length = answer(file.as_slice(), &mut text).unwrap();
+    rt.write_all(&text[0..length])
+}
+
+fn run(rt: &HostRuntime) -> anyhow::Result<()> {
+    let args: Vec<String> = env::args(rt)?.skip(1).collect(rt.alloc())?;
+    match args.as_slice() {
+        [] => print_answer(rt)?,
+        [word] if word.as_str() == "--help" => rt.print(HELP)?,
+        _ => return Err(anyhow!("plan takes no argument but --help")),
     }
+    Ok(())
+}
+
+fn main(rt: HostRuntime) -> anyhow::Result<()> {
+    run(&rt)
 }

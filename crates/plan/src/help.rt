@@ -1,6 +1,6 @@
-// What `plan_stdin --help` prints.
+// What `plan --help` prints.
 pub(crate) const HELP: &str = "\
-plan_stdin: reads a plan file on standard input, and prints its report or its refusal
+plan: reads a plan file on standard input, and prints its report or its refusal
 
 A plan file says how fast a cabinet's clock is and which tasks it has, a row for each. The report has
 upper bounds for the response times of all rows. A file is refused where it is not well formed, where a
