@@ -1,4 +1,6 @@
 -- The tasks that are judged together, by their places. Assumes nothing.
+-- How to read it: `places` and `newcomer` are what `judge` is passed, and `demand` is what values of the kind K mean. `claims` are the rows that
+-- are judged, with the meanings of their kinds.
 use Rattle.std.specs.Prelude.{◌≡◌, ℕ, ◌+◌, cond, List, [], ◌∷◌, ◌++◌, map, length, Some, None, Option, nat_lt, slice_index_or}
 use Rattle.std.specs.Borrow.{Bor}
 use Rattle.demand.specs.Demand.{Demand}
@@ -18,6 +20,7 @@ module _ {K : Type 0} where
   abbrev pub candidate : List (Option (Task K)) → Option (Task K) → ℕ → Option (Task K)
   candidate places newcomer i = cond (nat_lt i (length places)) (slice_index_or places i None) newcomer
 
+  -- what the kind of a task means, if there is a task
   abbrev pub demand_of : (K → Demand) → Option (Task K) → Demand
   demand_of demand None = idle
   demand_of demand (Some t) = demand t.kind

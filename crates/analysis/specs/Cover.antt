@@ -1,4 +1,5 @@
 -- What the higher rows do in a window, under a vector. Assumes nothing.
+-- How to read it: lists have the highest row first, v is a vector, t a window of the row below them. `interference` at the end is the sum.
 use Rattle.std.specs.Prelude.{ℕ, ◌+◌, ◌/◌, ◌%◌, Bool, cond, List, [], ◌∷◌, ◌==◌}
 use Rattle.demand.specs.Demand.{window}
 

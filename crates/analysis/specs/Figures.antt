@@ -1,4 +1,5 @@
 -- A garage of three rows worked out by hand. Assumes nothing.
+-- How to read it: the rows come first, then what is claimed of them: each field of `GarageFigures` is one claim.
 use Rattle.std.specs.Prelude.{◌≡◌, ℕ, List, [], ◌∷◌, map, slice_index}
 use Rattle.demand.specs.Basic.{every}
 use Rattle.analysis.specs.Plans.{Bounds, Fixed}
@@ -23,13 +24,15 @@ abbrev pub garage : List Claim
 garage =
     claim_with 3 10 0 0 40 2 5 40 ∷ claim_with 1 30 3 1 10 1 2 10 ∷ claim_with 2 20 0 0 15 0 3 16 ∷ []
 
+-- the same rows, highest first, with their blocking
 abbrev pub garage_loads : List Load
 garage_loads = loads (ranked garage)
 
--- the bounds and vectors of the three ranks
+-- the bounds of the three ranks
 abbrev pub garage_bounds : ℕ → ℕ
 garage_bounds k = slice_index (9 ∷ 9 ∷ 14 ∷ []) k
 
+-- and their vectors
 abbrev pub garage_vectors : ℕ → ℕ
 garage_vectors k = slice_index (0 ∷ 0 ∷ 2 ∷ []) k
 

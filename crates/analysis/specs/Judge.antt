@@ -1,4 +1,6 @@
 -- What is answered for ranked rows. Assumes nothing.
+-- How to read it: cs are rows with the meanings of their kinds, ls ranked rows with their blocking. `Judged` at the end is what `judge` promises;
+-- `RankJudged` and `RanksJudged` are what its steps promise, for one rank and for all of them.
 use Rattle.std.specs.Prelude.{◌≡◌, ℕ, ◌+◌, ◌-◌, ◌^◌, ◌<◌, ◌≤◌, List, length, get_or, take, Some, None, Ok, Err, Option, Result, slice_index_or}
 use Rattle.demand.specs.Demand.{Demand}
 use Rattle.analysis.specs.declared.Answer.{Answer}
@@ -36,9 +38,11 @@ module _ {K : Type 0} (demand : K → Demand) (places : List (Option (Task K))) 
 abbrev pub no_answer : Answer
 no_answer = record { number = 0; bound = 0; vector = 0; blocking = 0 }
 
+-- the bound that is answered for a rank
 abbrev pub bounds_of : List Answer → ℕ → ℕ
 bounds_of answers k = (get_or answers k no_answer).bound
 
+-- the vector that is answered for a rank
 abbrev pub vectors_of : List Answer → ℕ → ℕ
 vectors_of answers k = (get_or answers k no_answer).vector
 
@@ -53,6 +57,7 @@ pub record Answered (ls : List Load) (answers : List Answer) : Type 0 where
   pub rows : (k : ℕ) → k < length ls → RowAnswered (at ls k) (slice_index_or answers k no_answer)
   pub bounds : Bounds (system ls) (length ls) (bounds_of answers) (vectors_of answers)
 
+-- the answers in a value of the code: the first so many of its array
 abbrev pub answers_of : Answers → List Answer
 answers_of a = take a.count a.rows
 

@@ -1,4 +1,5 @@
 -- Locks: ceilings under the Stack Resource Policy, and how long a row can be blocked. Assumes nothing.
+-- How to read it: from one section up to `blocking`, which is B of a row. A lock that no row uses has the ceiling `None`.
 use Rattle.std.specs.Prelude.{ℕ, zero, suc, ◌+◌, ◌*◌, max, Bool, false, cond, List, [], ◌∷◌, Some, None, Option, ◌==◌, nat_le, slice_index}
 use Rattle.analysis.specs.declared.Row.{Row}
 

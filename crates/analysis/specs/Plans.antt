@@ -1,4 +1,6 @@
 -- Bounds, vectors and plans, over what each rank needs. Assumes nothing.
+-- How to read it: up to `Searched` all is about one rank, which needs `need v t` by window t under vector v. From `System` on it is about all ranks,
+-- 0 being the highest: R and Q are bounds by rank, V and W are vectors by rank, k is a rank. Nothing here speaks of rows or locks.
 use Rattle.std.specs.Prelude.{ℕ, ◌<◌, ◌≤◌, Some, None, Option}
 
 -- window t, from 1 to the deadline, covers what is needed by it under vector v

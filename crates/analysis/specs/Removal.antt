@@ -1,4 +1,5 @@
 -- Taking rows out of a set. Assumes nothing.
+-- How to read it: `SomeOf E xs ys` says that xs are some of ys. The law is `RemovalKeepsInTime`, at the end.
 use Rattle.std.specs.Prelude.{◌≡◌, ℕ, zero, suc, ◌<◌, ◌≤◌, List, [], ◌∷◌, length}
 use Rattle.analysis.specs.Plans.{Bounds}
 use Rattle.analysis.specs.Ranks.{Claim, ranked, system_of, DistinctPriorities}

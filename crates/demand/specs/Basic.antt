@@ -1,4 +1,6 @@
 -- The kinds that are given by numbers alone. Assumes nothing.
+-- How to read it: c is the length of a job and h that of a heavy one, m how many jobs in a row have one heavy job among them, t the spacing.
+-- The numbers may be any; `one_heavy` alone is for numbers in their ranges. What ends in `_demand` is the same of a value of the code.
 use Rattle.std.specs.Prelude.{ℕ, zero, suc, ◌+◌, ◌-◌, ◌*◌, ◌%◌, max, cond, ◌==◌}
 use Rattle.demand.specs.Demand.{Demand, capped, within, divided_up}
 use Rattle.demand.specs.declared.periodic.Every.{Every}

@@ -1,4 +1,5 @@
 -- What a kind of demand means, and the laws that every kind keeps. Assumes nothing.
+-- How to read it: numbers that are cut to a range come first; then `Demand`, which is what a kind means, and `Lawful`, which is the laws.
 use Rattle.std.specs.Prelude.{ℕ, ◌+◌, ◌-◌, ◌/◌, ◌≤◌, min, max}
 
 -- the largest job and the largest work that is ever answered

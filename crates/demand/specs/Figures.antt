@@ -1,4 +1,5 @@
 -- Figures that show what the kinds mean. Assumes nothing.
+-- How to read it: each line has the figures that the comment above it tells.
 use Rattle.std.specs.Prelude.{◌≡◌}
 use Rattle.demand.specs.Basic.{every, heavy}
 use Rattle.demand.specs.Made.{delayed, slowed}

@@ -1,4 +1,5 @@
--- What each kind's numbers keep. Assumes nothing.
+-- That each kind keeps the laws. Assumes nothing.
+-- How to read it: a theorem for each kind of Basic.antt and Made.antt, named after it. Behind each law stands its proof.
 use Rattle.std.specs.Prelude.{ℕ, ◌+◌, ◌-◌, ◌*◌, ◌<◌, ◌≤◌}
 use Rattle.std.proofs.Common.{arith}
 use Rattle.std.proofs.lemmas.Nat.{mul-le, le-div}
@@ -10,6 +11,7 @@ use Rattle.either.specs.declared.Either.TheVariants.{Left, Right}
 use Rattle.demand.specs.Rounding.{up_is, up_never_falls, up_positive}
 use Rattle.demand.specs.Runs.{largest_is}
 
+-- for any numbers, since those that are used are in their ranges
 pub every_lawful : (c t : ℕ) → Lawful (every c t)
 every_lawful c t = record {
   least_positive = omega arith;
@@ -26,6 +28,7 @@ every_lawful c t = record {
       omega (arith, mul-le 1 (length_of_job c) (divided_up w (length_of_spacing t)) (length_of_job c) jobs (omega arith));
 }
 
+-- for numbers in their ranges
 pub one_heavy_lawful : (c h m t : ℕ) → 1 ≤ c → c ≤ h → h ≤ 1_000_000 → 0 < m → 1 ≤ t → t ≤ 1_000_000 → Lawful (one_heavy c h m t)
 one_heavy_lawful c h m t c_pos less h_top m_pos t_pos t_top = record {
   least_positive = c_pos;
@@ -53,14 +56,17 @@ one_heavy_lawful c h m t c_pos less h_top m_pos t_pos t_top = record {
       );
 }
 
+-- for any numbers
 pub heavy_lawful : (c h m t : ℕ) → Lawful (heavy c h m t)
 heavy_lawful c h m t =
     one_heavy_lawful (length_of_job c) (length_of_heavy c h) (length_of_pattern m) (length_of_spacing t) (omega arith) (omega arith) (omega arith) (omega arith) (omega arith) (omega arith)
 
+-- a larger number times the factor is no smaller
 times_up_never_falls : (a b m n : ℕ) → 1 ≤ b → m ≤ n → times_up a b m ≤ times_up a b n
 times_up_never_falls a b m n b_pos le =
     omega (arith, up_never_falls (m * a) (n * a) b b_pos (mul-le m a n a le (omega arith)))
 
+-- a kind whose jobs take a / b times as long keeps the laws of the kind, where a / b is at least 1
 pub longer_lawful : (a b : ℕ) (d : Demand) → 1 ≤ b → b ≤ a → Lawful d → Lawful (longer a b d)
 longer_lawful a b d b_pos slower law = record {
   least_positive = omega (arith, le-div 1 (d.least * a) b b_pos (omega (arith, mul-le 1 b d.least a law.least_positive slower)));
@@ -73,6 +79,7 @@ longer_lawful a b d b_pos slower law = record {
   work_covers_own = λ w some top. times_up_never_falls a b d.own (d.work w) b_pos (law.work_covers_own w some top);
 }
 
+-- the same for any a and b, since those that are used come to at least 1
 pub slowed_lawful : (a b : ℕ) (d : Demand) → Lawful d → Lawful (slowed a b d)
 slowed_lawful a b d = longer_lawful (numerator_of a b) (denominator_of b) d (omega arith) (omega arith)
 

@@ -1,4 +1,6 @@
 -- The kinds that are made of other kinds. Assumes nothing.
+-- How to read it: d is what the kind below means, j the delay, a / b the factor. What ends in `_demand` is the same of a value of the code, and
+-- is given what values of the kinds below mean.
 use Rattle.std.specs.Prelude.{ℕ, ◌+◌, ◌-◌, ◌*◌, ◌/◌, min, max}
 use Rattle.demand.specs.Demand.{Demand, capped, window, within, divided_up}
 use Rattle.demand.specs.declared.jitter.Delayed.{Delayed}

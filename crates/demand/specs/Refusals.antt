@@ -1,4 +1,5 @@
 -- When a kind's numbers are refused, and by which number. Assumes nothing.
+-- How to read it: a check is a pair, whether it applies and its number. Checks stand in lists, and the first that applies counts (`first`).
 use Rattle.std.specs.Prelude.{ℕ, Bool, cond, not, ◌&&◌, ◌||◌, List, [], ◌∷◌, Ok, Err, Result, nat_le, nat_lt}
 use Rattle.demand.specs.Demand.{Demand}
 use Rattle.demand.specs.declared.KindRefusal.{KindRefusal}

@@ -1,4 +1,6 @@
 -- The largest total of consecutive jobs, one of each m of them heavy. Assumes nothing.
+-- How to read it: c, h and m are as in Basic.antt, where c is at most h and m is not 0. `largest_is` at the end is the theorem, and what stands
+-- before it leads there.
 use Rattle.std.specs.Prelude.{◌≡◌, ℕ, zero, suc, ◌+◌, ◌-◌, ◌*◌, ◌%◌, ◌<◌, ◌≤◌, ◌==◌, ◌≢◌}
 use Rattle.std.proofs.Math.Path.{ap}
 use Rattle.std.proofs.Math.Logic.{⊎_elim}
@@ -15,6 +17,7 @@ module _ (c h m : ℕ) (less : c ≤ h) (pos : 0 < m) where
   beyond : ℕ → ℕ
   beyond j = divided_up j m * (h - c)
 
+  -- a job, by the heavy jobs before it and before the next
   job_is : (j : ℕ) → job_number c h m j + beyond j ≡ c + beyond (j + 1)
   unfolding beyond
   job_is j =
@@ -32,22 +35,26 @@ module _ (c h m : ℕ) (less : c ≤ h) (pos : 0 < m) where
       let next : p + suc n ≡ p + n + 1 = omega arith in
       omega (arith, total_is p n, job_is (p + n), ap beyond next, add-mul n 1 c)
 
+  -- the run that begins with a heavy job
   from_start : (n : ℕ) → total c h m 0 n ≡ from_heavy c h m n
   unfolding beyond
   from_start n =
       let none : divided_up 0 m ≡ 0 = omega (arith, up_least 0 m 0 pos (omega arith)) in
       omega (arith, total_is 0 n, ap (λ k. k * (h - c)) none, ap beyond (zero-add n))
 
+  -- no run of as many jobs has a larger total
   none_larger : (p n : ℕ) → total c h m p n ≤ from_heavy c h m n
   unfolding beyond
   none_larger p n =
       let less_heavy = mul-le (divided_up (p + n) m) (h - c) (divided_up p m + divided_up n m) (h - c) (up_of_sum p n m pos) (omega arith) in
       omega (arith, total_is p n, add-mul (divided_up p m) (divided_up n m) (h - c), less_heavy)
 
+  -- so the largest is at most that total
   bounded : (q n : ℕ) → largest_before c h m n q ≤ from_heavy c h m n
   bounded zero n = omega arith
   bounded (suc q) n = omega (arith, bounded q n, none_larger q n)
 
+  -- and at least that, since this run is among those that are compared
   reached : (q n : ℕ) → 0 < q → from_heavy c h m n ≤ largest_before c h m n q
   reached zero n some = omega arith
   reached (suc zero) n some = omega (arith, from_start n)

@@ -1,4 +1,5 @@
 -- What is known of a table between the calls of a program. Assumes nothing.
+-- How to read it: `Accounted` and `Holding` have an account at hand; `IsAccounted` and `IsHolding` say the same without naming one.
 use Rattle.std.specs.Prelude.{◌≡◌, true}
 use Rattle.demand.specs.declared.periodic.Every.{Every}
 use Rattle.demand.specs.Basic.{every_demand}
@@ -12,7 +13,7 @@ pub record Accounted (t : Table Every) : Type 0 where
   pub account : Account
   pub agrees : AgreesWith every_demand account t
 
--- and the hold is one that the table gave and that is not spent yet
+-- some account agrees with the table and has the hold among its unspent ones
 pub record Holding (t : Table Every) (h : Hold) : Type 0 where
   pub account : Account
   pub agrees : AgreesWith every_demand account t
@@ -22,5 +23,6 @@ pub record Holding (t : Table Every) (h : Hold) : Type 0 where
 abbrev pub IsAccounted : Table Every → Type 0
 IsAccounted t = ∥ Accounted t ∥₁
 
+-- that the hold is an unspent one of the table, and nothing of which account says so
 abbrev pub IsHolding : Table Every → Hold → Type 0
 IsHolding t h = ∥ Holding t h ∥₁

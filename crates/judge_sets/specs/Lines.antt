@@ -1,4 +1,5 @@
--- The lines that are printed.
+-- The lines that are printed. Assumes nothing.
+-- How to read it: a line is a list of bytes; `decimal` are the digits of a number.
 use Rattle.std.specs.Prelude.{ℕ, List, ◌++◌, codes, decimal}
 use Rattle.analysis.specs.declared.Answer.{Answer}
 

@@ -1,4 +1,6 @@
 -- The lines of a plan file: which checks each meets, and what it says. Assumes nothing.
+-- How to read it: fs is a line, as the list of its fields, which count from 1. A check is a pair, whether it applies and what it blames; checks
+-- stand in lists, and the first that applies counts. For a clock line see `clock_checks` and `clock_of`, for a row line `line_checks` and `task_of`.
 use Rattle.std.specs.Prelude.{◌≡◌, ℕ, zero, suc, ◌+◌, ◌-◌, Bool, true, false, not, List, [], ◌∷◌, ◌++◌, map, length, Ok, Err, Result, ◌==◌, nat_lt}
 use Rattle.analysis.specs.declared.Row.{Row}
 use Rattle.analysis.specs.declared.Task.{Task}
@@ -21,6 +23,7 @@ use Rattle.planfile.specs.declared.fault.Blame.{Blame}
 use Rattle.planfile.specs.Fault.{nothing, by, by_field, first_blame, line_blame}
 use Rattle.planfile.specs.Text.{field, word_of, is_number, value}
 
+-- the word is the one that begins a clock line
 abbrev pub is_clock : Word → Bool
 is_clock Clock = true
 is_clock RowWord = false
@@ -28,6 +31,7 @@ is_clock Every = false
 is_clock Heavy = false
 is_clock Other = false
 
+-- the word is the one that begins a row line
 abbrev pub is_row : Word → Bool
 is_row Clock = false
 is_row RowWord = true
@@ -95,7 +99,7 @@ row_of fs = record {
   sections = numbers_in fs 8 8;
 }
 
--- A row line.
+-- what a row line has: a row, how late its jobs may come, and its jobs
 pub record Entry : Type 0 where
   pub row : Row
   pub delay : ℕ

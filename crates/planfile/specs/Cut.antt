@@ -1,4 +1,5 @@
 -- How a file is cut into lines, and each line into its fields. Assumes nothing.
+-- How to read it: lines and fields are as in Text.antt; here is what the reader has of them.
 use Rattle.std.specs.Prelude.{ℕ, ◌+◌, ◌<◌, ◌≤◌, List, length, map}
 use Rattle.planfile.specs.declared.reader.Reader.{Reader}
 use Rattle.planfile.specs.Text.{lines, fields}

@@ -1,4 +1,5 @@
 -- What a fault says: its number, and what is to blame. Assumes nothing.
+-- How to read it: a `Blame` is a struct of the code, with the number of a check, a line, a field and a late row, each 0 where there is none.
 use Rattle.std.specs.Prelude.{ℕ, Bool, cond, List, [], ◌∷◌}
 use Rattle.demand.specs.Refusals.{refusal_number}
 use Rattle.table.specs.Account.{hold_number, hold_late}

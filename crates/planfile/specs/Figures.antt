@@ -1,4 +1,5 @@
 -- A plan file of three rows, worked out by hand. Assumes nothing.
+-- How to read it: the rows and their file come first, then what is claimed of them: each field of `PlanFigures` is one claim.
 use Rattle.std.specs.Prelude.{◌≡◌, ℕ, List, [], ◌∷◌, Ok, codes}
 use Rattle.analysis.specs.declared.Answer.{Answer}
 use Rattle.demand.specs.declared.speed.Factor.{Factor}
@@ -46,6 +47,7 @@ garage_answers =
     ∷ record { number = 3; bound = 14; vector = 2; blocking = 0 }
     ∷ []
 
+-- what follows from the definitions for this file, and for small texts and lines
 pub record PlanFigures : Type 0 where
   -- the rows, written, are the file
   pub written : plan_text even_clock garage_entries ≡ garage_file

@@ -1,4 +1,6 @@
 -- Laws of plan files, in terms of their lines and of the rows that were written. Assumes nothing.
+-- How to read it: three clauses of `load` stand here, `InFileOrder`, `OneAnswer` and `RoundTrip`, each behind what it is made of. `text` is a file,
+-- `before` and `after` are the memory of the report, r is the answer.
 use Rattle.std.specs.Prelude.{◌≡◌, ℕ, ◌+◌, ◌<◌, ◌≤◌, ◌≢◌, ◌⊎◌, List, [], ◌∷◌, ◌++◌, length, take, drop, Ok, Err, codes, Result, MatchResult, slice_index_or}
 use Rattle.std.specs.List.{AllByRecursion}
 use Rattle.analysis.specs.declared.Answer.{Answer}
@@ -106,6 +108,7 @@ plan_text clock es = clock_text clock ++ rows_text es
 abbrev pub AllFit : List ℕ → Type 0
 AllFit = AllByRecursion (λ n. n ≤ 4_294_967_295)
 
+-- the numbers that stand behind the word of a kind
 abbrev pub jobs_numbers : Jobs → List ℕ
 jobs_numbers (Left k) = k.job ∷ k.period ∷ []
 jobs_numbers (Right k) = k.job ∷ k.heavy ∷ k.among ∷ k.period ∷ []

@@ -1,3 +1,4 @@
+-- What the contracts of this crate speak of: each module is the file of that name beside this one.
 pub mod Text
 pub mod Fault
 pub mod Checks

@@ -1,4 +1,5 @@
 -- What load answers, and what report memory then holds. Assumes nothing.
+-- How to read it: `text` is a file, `before` and `after` are the memory before the call and after it. `Loaded` is for `load`, `AnsweredText` for `answer`.
 use Rattle.std.specs.Prelude.{◌≡◌, ℕ, ◌<◌, ◌≤◌, ◌⊎◌, List, length, Ok, Err, Result}
 use Rattle.analysis.specs.declared.Answer.{Answer}
 use Rattle.analysis.specs.Judge.{InTime}

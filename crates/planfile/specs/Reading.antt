@@ -1,4 +1,6 @@
 -- What a plan file means: which rows it gives, or what is wrong with it. Assumes nothing.
+-- How to read it: from one row line (`RowTaken`, `RowRefused`) to all of them (`RowsRead`), with the clock line (`LinesRead`), with the checks of
+-- the whole file (`FileRead`). Each relates what is read to what it gives: rows, the last first, or a blame.
 use Rattle.std.specs.Prelude.{◌≡◌, ℕ, ◌+◌, Bool, not, ◌||◌, ◌≢◌, ◌⊎◌, List, [], ◌∷◌, length, drop, Ok, Err, Result, nat_lt, slice_index_or}
 use Rattle.analysis.specs.Ranks.{Claim}
 use Rattle.table.specs.declared.Hold.{Hold as Token}

@@ -1,4 +1,5 @@
 -- The texts that are written, and what memory holds then. Assumes nothing.
+-- How to read it: a text is a list of bytes. `report` and `refusal_line` are the two texts; the rest says where they stand.
 use Rattle.std.specs.Prelude.{◌≡◌, ℕ, ◌+◌, ◌<◌, ◌≤◌, List, [], ◌∷◌, ◌++◌, length, take, drop, Ok, Err, codes, decimal, Result}
 use Rattle.analysis.specs.declared.Answer.{Answer}
 use Rattle.arrayvec.specs.ArrayString.{ArrayString, array_string_len}

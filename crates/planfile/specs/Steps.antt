@@ -1,4 +1,5 @@
 -- What the reader has taken of a line, byte by byte. Assumes nothing.
+-- How to read it: `at` is the place of the next byte. `Taking` is true before the reader takes it and `Taken` after, by the state that it is in.
 use Rattle.std.specs.Prelude.{◌≡◌, ℕ, ◌+◌, ◌≤◌, List, [], ◌∷◌, ◌++◌, length, map, take, drop}
 use Rattle.std.specs.List.{between}
 use Rattle.planfile.specs.declared.reader.Reader.{Reader}

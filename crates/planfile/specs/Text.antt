@@ -1,4 +1,5 @@
 -- Lines, fields, words and numbers of a text, which is a list of bytes. Assumes nothing.
+-- How to read it: bytes are numbers, so 9 is a tab, 10 a newline, and 48 to 57 are the digits. FORMATS.md says the same in words.
 use Rattle.std.specs.Prelude.{ℕ, ◌+◌, ◌-◌, ◌*◌, Bool, true, cond, ◌&&◌, List, [], ◌∷◌, length, take, codes, ◌==◌, nat_le, nat_lt, slice_index, slice_index_or}
 use Rattle.std.specs.Cmp.Lexicographic.{pointwise}
 use Rattle.std.specs.List.{slice_split}

@@ -1,4 +1,6 @@
 -- The account of holds: what a table answers, by the arguments of its calls alone. Assumes nothing.
+-- How to read it: a is the account before a call, b the one after it, c a row with the meaning of its kind, h a hold, n the number of a row. The
+-- calls are `Holds`, `Spends` (keep and release), `Withdraws` and `BoundsAnswered`; each says which answers the account allows.
 use Rattle.std.specs.Prelude.{◌≡◌, ℕ, ◌<◌, Bool, true, false, cond, not, ◌&&◌, ◌||◌, List, [], ◌∷◌, ◌++◌, length, Ok, Err, Result, ◌==◌, nat_le, nat_lt}
 use Rattle.demand.specs.Refusals.{first}
 use Rattle.analysis.specs.declared.judgement.JudgeRefusal.{JudgeRefusal}
@@ -32,6 +34,7 @@ pub record Account : Type 0 where
 abbrev pub fresh : ℕ → ℕ → Account
 fresh number room = record { number = number; room = room; rows = []; holds = [] }
 
+-- the row's number
 abbrev pub number_of : Claim → ℕ
 number_of c = c.row.number
 
@@ -103,13 +106,16 @@ hold_late Section = 0
 hold_late NoPlace = 0
 hold_late (Late n) = n
 
+-- the number of a refusal of keep or release
 abbrev pub spend_number : SpendRefusal → ℕ
 spend_number (NotHeld h) = 12
 
+-- the number of a refusal of withdraw
 abbrev pub withdraw_number : WithdrawRefusal → ℕ
 withdraw_number WithdrawNoSuchRow = 13
 withdraw_number NotKept = 14
 
+-- the number of a refusal of bound
 abbrev pub bound_number : BoundRefusal → ℕ
 bound_number BoundNoSuchRow = 13
 

@@ -1,4 +1,6 @@
 -- When a table agrees with an account. Assumes nothing.
+-- How to read it: `Agrees` ties the fields of a table to an account, and `demand` is what values of the kind K mean. Up to `Sound` all is about
+-- accounts alone.
 use Rattle.std.specs.Prelude.{◌≡◌, ℕ, ◌<◌, min, true, false, ◌≢◌, List, [], ◌∷◌, length, take, Some, None, Option, slice_index_or}
 use Rattle.demand.specs.Demand.{Demand, Lawful}
 use Rattle.analysis.specs.declared.Task.{Task}

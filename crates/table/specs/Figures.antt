@@ -1,4 +1,5 @@
 -- Figures worked out by hand: of the kinds, of three rows, and of the account of holds for the same rows. Assumes nothing.
+-- How to read it: rows and accounts come first, then what is claimed of them: each field of `WorkedFigures` is one claim.
 use Rattle.std.specs.Prelude.{ℕ, List, [], ◌∷◌, Ok, Err}
 use Rattle.demand.specs.Figures.{KindFigures}
 use Rattle.analysis.specs.Figures.{claim_with, GarageFigures}
@@ -7,13 +8,15 @@ use Rattle.table.specs.declared.Hold.{Hold}
 use Rattle.table.specs.declared.HoldRefusal.TheVariants.{Late}
 use Rattle.table.specs.Account.{Account, Holds, Withdraws, BoundsAnswered, with_row, with_withdrawn}
 
--- the three rows of the garage, 1 and 3 with this deadline
+-- the meters, with this deadline
 abbrev pub row_1 : ℕ → Claim
 row_1 deadline = claim_with 1 30 3 1 deadline 1 2 10
 
+-- the card reader
 abbrev pub row_2 : Claim
 row_2 = claim_with 2 20 0 0 15 0 3 16
 
+-- the car, with this deadline
 abbrev pub row_3 : ℕ → Claim
 row_3 deadline = claim_with 3 10 0 0 deadline 2 5 40
 
@@ -33,6 +36,7 @@ three_kept = kept (row_3 40 ∷ row_2 ∷ row_1 10 ∷ [])
 abbrev pub hold_of_3 : Hold
 hold_of_3 = record { table = 1; row = 3 }
 
+-- what follows from the definitions for the kinds, for these rows, and for calls on these accounts
 pub record WorkedFigures : Type 0 where
   -- what each kind comes to at small numbers
   pub kinds : KindFigures

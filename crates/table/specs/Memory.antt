@@ -1,4 +1,5 @@
 -- What a call leaves in the table and in the row memory. Assumes nothing.
+-- How to read it: t is the table before the call and u the one after it; `places.now` is the row memory.
 use Rattle.std.specs.Prelude.{◌≡◌, ℕ, ◌<◌, List, length, get_or, drop, None, Option, slice_index_or, slice_set}
 use Rattle.analysis.specs.declared.Task.{Task}
 use Rattle.table.specs.declared.State.{State}

@@ -1,4 +1,5 @@
 -- What stands at a place, and at which places a table looks. Assumes nothing.
+-- How to read it: t is a table, p a place, and P something that is said of the state at a place.
 use Rattle.std.specs.Prelude.{◌≡◌, ℕ, ◌<◌, Bool, false, cond, List, [], ◌∷◌, length, Some, None, Option, MatchOption, ◌==◌, slice_index_or}
 use Rattle.analysis.specs.declared.Answer.{Answer}
 use Rattle.table.specs.declared.Hold.{Hold}

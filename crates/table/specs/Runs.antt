@@ -1,4 +1,6 @@
 -- Runs of calls on one table, and what holds after each. Assumes nothing.
+-- How to read it: an `Event` is a call with its answer, and a `Run` has events, the last one first, with the account after them. `EveryRun` at the
+-- end is the promise over all runs; `AfterRun` and `KeptPromise` have its parts.
 use Rattle.std.specs.Prelude.{◌≡◌, ℕ, ◌<◌, true, ◌⊎◌, List, [], ◌∷◌, length, Ok, Err, Result}
 use Rattle.demand.specs.Demand.{Lawful}
 use Rattle.demand.specs.Refusals.{first}
@@ -85,7 +87,7 @@ abbrev pub Among : {A : Type 0} → A → List A → Type 0
 Among x [] = ⊥
 Among x (y ∷ ys) = (y ≡ x) ⊎ Among x ys
 
--- What holds after a run:
+-- What is promised after a run, in three parts: bounds and vectors, who is refused as late, which rows and holds there are.
 pub record KeptPromise (es : List Event) (a : Account) : Type 0 where
   -- the bounds and vectors that are then answered for all rows
   pub R : ℕ → ℕ
@@ -102,7 +104,7 @@ pub record KeptPromise (es : List Event) (a : Account) : Type 0 where
   -- the holds are exactly those given and not since spent
   pub held_unspent : (n : ℕ) → (Among (record { table = a.number; row = n }) a.holds → Unspent n es) × (Unspent n es → Among (record { table = a.number; row = n }) a.holds)
 
--- What holds after a run from a fresh table with this number and room: the promise, and
+-- What holds after a run from a fresh table with this number and room: the promise, and what makes its parts say all.
 pub record AfterRun (number room : ℕ) (es : List Event) (a : Account) : Type 0 where
   pub number_is : a.number ≡ number
   pub room_is : a.room ≡ room
@@ -114,6 +116,6 @@ pub record AfterRun (number room : ℕ) (es : List Event) (a : Account) : Type 0
   pub own_holds : (h : Bears) → Among h a.holds → (h.table ≡ number) × (has_number h.row a.rows ≡ true)
   pub promise : KeptPromise es a
 
--- It holds after every run of calls from a fresh table.
+-- All of this holds after every run from a fresh table.
 abbrev pub EveryRun : ℕ → ℕ → Type 0
 EveryRun number room = (es : List Event) (a : Account) → Run (fresh number room) es a → AfterRun number room es a
