@@ -1,5 +1,5 @@
 -- Rows in another order, checks of which none applies, rows that are in time, and places. Assumes nothing.
-use Rattle.std.proofs.Common.{◌≡◌, ℕ, zero, suc, ◌<◌, ◌≤◌, Bool, true, false, cond, ◌||◌, eqb, ltb, ◌≢◌, List, [], ◌∷◌, length, get_or, Some, None, Option, sym, refl, ap, ◌∙◌, subst, arith}
+use Rattle.std.proofs.Common.{◌≡◌, ℕ, zero, suc, ◌<◌, ◌≤◌, Bool, false, ◌||◌, eqb, ltb, ◌≢◌, List, [], ◌∷◌, length, get_or, Some, None, Option, sym, refl, ap, ◌∙◌, subst, arith}
 use Rattle.std.specs.List.{list_any}
 use Rattle.std.proofs.lemmas.List.Recursion.{same_from_clauses}
 use Rattle.std.proofs.lemmas.Bool.{leb-false, ltb-false, or_parts}
@@ -74,11 +74,6 @@ numbers_reordered (through r q) d = numbers_reordered q (numbers_reordered r d)
 abbrev pub Numbered : ℕ → ℕ → List (Bool × ℕ) → Type 0
 Numbered low high [] = Unit {0}
 Numbered low high (c ∷ cs) = ((low ≤ c.1) × (c.1 ≤ high)) × Numbered low high cs
-
--- a check that does not apply, and those behind it
-pub not_taken : (b : Bool) (n m : ℕ) → 1 ≤ n → cond b n m ≡ 0 → (b ≡ false) × (m ≡ 0)
-not_taken true n m h e = absurd (omega arith)
-not_taken false n m h e = (refl, e)
 
 abbrev NoneApplies : List (Bool × ℕ) → Type 0
 NoneApplies [] = Unit {0}
