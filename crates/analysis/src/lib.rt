@@ -28,11 +28,13 @@ pub const LOCKS: usize = 8;
 // The numbers of a task. A larger priority is higher.
 #[derive(Clone, Copy, Default)]
 pub struct Row {
+    // a name; nothing is worked out from it
     pub number: u32,
     pub priority: u32,
     // how long a job suspends itself in all, and how often
     pub suspension: u32,
     pub suspensions: u32,
+    // how long after its release a job may take
     pub deadline: u32,
     // the longest section on each lock; 0 says that the row does not use it
     pub sections: [u32; LOCKS],

@@ -10,7 +10,7 @@ use demand::Kind;
 // The least window from 1 to the deadline that covers under some vector, with the smallest vector that covers at it.
 // Where no vector covers at a window, the next one to try is the least that is needed by it under any vector: what is
 // needed never falls as the window grows, so no window between the two covers. Window and vector go on as a pair, up to `bound`
-// of a table, which is a form that was settled.
+// of a table: one of the forms in docs/DECISIONS.md.
 pub(crate) fn search<K: Kind>(
     higher: &HigherRows<'_, K>,
     alone: u64,

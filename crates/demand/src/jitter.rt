@@ -14,6 +14,7 @@ pub struct Delayed<K> {
 }
 
 impl<K: Kind + Drop> Delayed<K> {
+    // The kind, each job late by up to `delay`, or a refusal where that is not below its spacing.
     pub fn new(kind: K, delay: u32) -> Result<Delayed<K>, KindRefusal>
         ensures refusal { answer_number result ≡ first (delayed_checks delay (K.Kind.demand kind)) }
         ensures fields { IfOk result (λ k. (k.kind ≡ kind) × (k.delay ≡ delay)) }

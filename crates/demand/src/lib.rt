@@ -53,13 +53,18 @@ pub trait Kind {
 // What is wrong with the numbers of a kind, by the number of the check that applies.
 #[derive(Clone, Copy, PartialEq, Eq, Debug)]
 pub enum KindRefusal {
+    // a job's length
     Job = 1,
+    // the spacing, or how many jobs have one heavy job among them
     Period = 2,
+    // the delay
     Delay = 3,
+    // the factor
     Speed = 4,
 }
 
 impl KindRefusal {
+    // The number of the check.
     pub fn number(self) -> u32
         ensures { result ≡ refusal_number self }
     {

@@ -17,6 +17,7 @@ pub struct Heavy {
 }
 
 impl Heavy {
+    // The kind with these numbers, or a refusal where one is out of range.
     pub fn new(job: u32, heavy: u32, among: u32, period: u32) -> Result<Heavy, KindRefusal>
         ensures refusal { answer_number result ≡ first (heavy_checks job heavy among period) }
         ensures fields { IfOk result (λ k. (k.job ≡ job) × (k.heavy ≡ heavy) × (k.among ≡ among) × (k.period ≡ period)) }

@@ -14,6 +14,7 @@ pub struct Every {
 }
 
 impl Every {
+    // The kind with these numbers, or a refusal where one is out of range.
     pub fn new(job: u32, period: u32) -> Result<Every, KindRefusal>
         ensures refusal { answer_number result ≡ first (every_checks job period) }
         ensures fields { IfOk result (λ k. (k.job ≡ job) × (k.period ≡ period)) }

@@ -18,6 +18,7 @@ pub struct Factor {
 }
 
 impl Factor {
+    // The factor with these parts, or a refusal where they are out of range or the factor is below 1.
     pub fn new(numerator: u32, denominator: u32) -> Result<Factor, KindRefusal>
         ensures refusal { answer_number result ≡ first (slowed_checks numerator denominator) }
         ensures fields { IfOk result (λ f. (f.numerator ≡ numerator) × (f.denominator ≡ denominator)) }
@@ -72,8 +73,8 @@ pub struct Slowed<K> {
 }
 
 impl<K: Kind + Drop> Slowed<K> {
-    // Two numbers, as for the other kinds. A caller that had to make a factor first, and take its refusal, would be no
-    // plainer.
+    // The kind, slowed by this factor, or the refusal of `Factor::new`. It takes two numbers, as the other kinds do: a caller
+    // that had to make a factor first, and take its refusal, would be no plainer.
     pub fn new(kind: K, numerator: u32, denominator: u32) -> Result<Slowed<K>, KindRefusal>
         ensures refusal { answer_number result ≡ first (slowed_checks numerator denominator) }
         ensures fields { IfOk result (λ k. (k.kind ≡ kind) × (k.factor.numerator ≡ numerator) × (k.factor.denominator ≡ denominator)) }

@@ -10,6 +10,7 @@ use table::HoldRefusal;
 // What is wrong with a field.
 #[derive(Clone, Copy, PartialEq, Eq, Debug)]
 pub enum FieldFault {
+    // it is empty, or has other bytes than digits, or is above 4,294,967,295
     NotNumber,
 }
 
@@ -22,7 +23,9 @@ pub enum LineFault {
     Count,
     // the field is not a number
     Number(u32),
+    // the numbers of a kind are refused, or those of the clock's factor
     Kind(KindRefusal),
+    // the row is not taken
     Hold(HoldRefusal),
 }
 
@@ -33,6 +36,7 @@ pub enum Fault {
     ReportMemory,
     // the file is too long, or does not end with a newline
     File,
+    // something is wrong with the line of this number
     Line(u32, LineFault),
 }
 

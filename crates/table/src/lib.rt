@@ -44,30 +44,41 @@ pub struct Hold {
 // Why a row is not taken.
 #[derive(Clone, Copy, PartialEq, Eq, Debug)]
 pub enum HoldRefusal {
+    // the number is not 1 to 255, or a row has it
     Number,
+    // the same of the priority
     Priority,
+    // suspensions are too long or too many, or just one of the two numbers is 0
     Suspension,
+    // the deadline is 0, or above the spacing of the kind
     Deadline,
+    // a section is longer than the longest job
     Section,
+    // the table has no room for one more row
     NoPlace,
+    // some row would be late; the number is that of the first one
     Late(u32),
 }
 
-// Why a hold is not spent. It comes back.
+// Why a hold is not spent. It comes back, and has to be spent still.
 pub enum SpendRefusal {
+    // it is another table's, or its row is not held here
     NotHeld(Hold),
 }
 
 // Why a row is not withdrawn.
 #[derive(Clone, Copy, PartialEq, Eq, Debug)]
 pub enum WithdrawRefusal {
+    // no row of the table has the number
     NoSuchRow = 13,
+    // the row is held
     NotKept = 14,
 }
 
 // Why no bound is answered.
 #[derive(Clone, Copy, PartialEq, Eq, Debug)]
 pub enum BoundRefusal {
+    // no row of the table has the number
     NoSuchRow,
 }
 
