@@ -1,8 +1,13 @@
-// Bad input, and input at its limits, run on the code.
-use planfile::{Blame, Fault, LONGEST_FILE, REPORT_MEMORY, load, write_refusal};
+// Bad input, input at its limits, and a worked example of each public call of `planfile`, run on the code.
+use demand::KindRefusal;
+use planfile::{
+    Blame, Fault, FieldFault, LONGEST_FILE, LineFault, REPORT_MEMORY, answer, load,
+    plan_figures_hold, read_number, write_refusal,
+};
 use std::alloc::{AllocError, Global};
 use std::process::Abort;
 use std::test::Fail;
+use table::HoldRefusal;
 
 // The start of a file whose next line is a row line.
 const CLOCK: &[u8] = b"clock\t1\t1\n";
@@ -379,4 +384,55 @@ fn refusal_memory(rt: HostRuntime) -> Result<(), Fail> {
     assert_eq!(rt; text.get(0..length), Some(line.as_slice()));
     check_untouched(&rt, text.get(length..512).ok_or("too short")?);
     Ok(())
+}
+
+// A report and a refusal line go by the same call.
+#[test]
+fn a_file_is_answered(rt: HostRuntime) -> Result<(), Fail> {
+    let mut text = [b'#'; REPORT_MEMORY];
+    let length = answer(GARAGE, &mut text)?;
+    assert_eq!(rt; text.get(0..length), Some(GARAGE_REPORT));
+    let length = answer(b"clock\t1\t2\n", &mut text)?;
+    assert_eq!(rt;
+        text.get(0..length),
+        Some(b"refused\t1\t0\t4\t0\n".as_slice())
+    );
+    let mut short = [b'#'; 511];
+    assert_eq!(rt; said(answer(GARAGE, &mut short)), Err(file(19)));
+    Ok(())
+}
+
+#[test]
+fn numbers_of_fields(rt: HostRuntime) {
+    assert_eq!(rt; read_number(b"0"), Ok(0));
+    assert_eq!(rt; read_number(b"0042"), Ok(42));
+    assert_eq!(rt; read_number(b"4294967295"), Ok(u32::MAX));
+    assert_eq!(rt; read_number(b"4294967296"), Err(FieldFault::NotNumber));
+    assert_eq!(rt; read_number(b""), Err(FieldFault::NotNumber));
+}
+
+// What each fault says, at once and by one call for each number.
+#[test]
+fn faults(rt: HostRuntime) {
+    let late_row = LineFault::from(HoldRefusal::Late(3));
+    let no_job = LineFault::from(KindRefusal::Job);
+    let cases = [
+        (Fault::ReportMemory, file(19)),
+        (Fault::File, file(18)),
+        (Fault::Line(1, LineFault::Word(1)), field(17, 1, 1)),
+        (Fault::Line(2, LineFault::Count), line(15, 2)),
+        (Fault::Line(3, LineFault::Number(6)), field(16, 3, 6)),
+        (Fault::Line(4, late_row), late(11, 4, 3)),
+        (Fault::Line(5, no_job), line(1, 5)),
+    ];
+    for (fault, says) in cases {
+        assert_eq!(rt; fault.blame(), says);
+        assert_eq!(rt; blame(fault), says);
+    }
+}
+
+// The answer is `true` always; what is proved is the contract.
+#[test]
+fn figures_hold(rt: HostRuntime) {
+    assert!(rt; plan_figures_hold());
 }
