@@ -1,4 +1,6 @@
+// The figures and limits of the kinds, and a worked example of each public call, run on the code.
 use super::*;
+use std::test::Fail;
 
 const EVERY: Every = Every { job: 2, period: 10 };
 
@@ -97,4 +99,60 @@ fn refusals(rt: HostRuntime) {
         ],
         [Some(4), None]
     );
+}
+
+// What `new` answers is a kind with the numbers that were passed, and is asked like one that was written as a literal.
+#[test]
+fn made_by_new(rt: HostRuntime) -> Result<(), Fail> {
+    let every = Every::new(2, 10)?;
+    let heavy = Heavy::new(2, 5, 3, 10)?;
+    let delayed = Delayed::new(every, 4)?;
+    let slowed = Slowed::new(heavy, 3, 2)?;
+    assert_eq!(rt; [every.work(11), heavy.work(21)], [4, 9]);
+    assert_eq!(rt;
+        [delayed.spacing(), delayed.own(), delayed.least()],
+        [6, 2, 2]
+    );
+    assert_eq!(rt; [slowed.own(), slowed.least(), slowed.work(21)], [8, 3, 14]);
+    Ok(())
+}
+
+// A factor that is checked once, and slows kinds of more than one type.
+#[test]
+fn one_factor_for_all(rt: HostRuntime) -> Result<(), Fail> {
+    let factor = Factor::new(3, 2)?;
+    let every = Slowed {
+        kind: EVERY,
+        factor,
+    };
+    let late = Slowed {
+        kind: Delayed::new(EVERY, 4)?,
+        factor,
+    };
+    assert_eq!(rt; [every.work(10), every.work(11)], [3, 6]);
+    assert_eq!(rt; [late.work(6), late.work(7)], [3, 6]);
+    assert_eq!(rt; Factor::new(2, 3).err(), Some(KindRefusal::Speed));
+    Ok(())
+}
+
+// Kinds of two types as values of one.
+#[test]
+fn one_or_the_other(rt: HostRuntime) -> Result<(), Fail> {
+    let kinds: [Either<Every, Heavy>; 2] = [Left(EVERY), Right(Heavy::new(3, 5, 3, 20)?)];
+    let [left, right] = kinds;
+    assert_eq!(rt;
+        [left.spacing(), left.own(), left.least(), left.work(11)],
+        [10, 2, 2, 4]
+    );
+    assert_eq!(rt;
+        [right.spacing(), right.own(), right.least(), right.work(21)],
+        [20, 5, 3, 8]
+    );
+    Ok(())
+}
+
+// The answer is `true` always; what is proved is the contract.
+#[test]
+fn figures_hold(rt: HostRuntime) {
+    assert!(rt; kind_figures_hold());
 }
