@@ -1,7 +1,8 @@
-// The limits of a row and of a table, run on the code.
+// The limits of a row and of a table, and a worked example of each public call, run on the code.
 use super::*;
-use analysis::Row;
+use analysis::{JudgeRefusal, Row};
 use demand::Every;
+use std::test::Fail;
 
 const KIND: Every = Every {
     job: 1,
@@ -21,9 +22,9 @@ fn row(number: u32) -> Row {
 }
 
 // Holds a row and spends the hold. A refusal is answered by its number.
-fn pass<'a, F>(table: &mut Table<'a, Every>, row: Row, spend: F) -> Result<(), u32>
+fn pass<'a, F, T>(table: &mut Table<'a, Every>, row: Row, spend: F) -> Result<T, u32>
 where
-    F: FnOnce(&mut Table<'a, Every>, Hold) -> Result<(), SpendRefusal>,
+    F: FnOnce(&mut Table<'a, Every>, Hold) -> Result<T, SpendRefusal>,
     requires { F.IsAlwaysCallable spend }
 {
     let hold = table.hold(row, KIND).map_err(HoldRefusal::number)?;
@@ -37,7 +38,7 @@ where
 
 #[test]
 fn at_most_63_suspensions(rt: HostRuntime) {
-    let mut places = [EMPTY; 12];
+    let mut places = [EMPTY; MOST_ROWS];
     let mut table = Table::new(1, &mut places);
     let mut row = row(1);
     row.suspension = 64;
@@ -53,7 +54,7 @@ fn at_most_63_suspensions(rt: HostRuntime) {
 
 #[test]
 fn a_deadline_up_to_the_spacing(rt: HostRuntime) {
-    let mut places = [EMPTY; 12];
+    let mut places = [EMPTY; MOST_ROWS];
     let mut table = Table::new(1, &mut places);
     let mut row = row(1);
     row.deadline = 1000;
@@ -65,7 +66,7 @@ fn a_deadline_up_to_the_spacing(rt: HostRuntime) {
 
 #[test]
 fn numbers_from_1_to_255(rt: HostRuntime) {
-    let mut places = [EMPTY; 12];
+    let mut places = [EMPTY; MOST_ROWS];
     let mut table = Table::new(1, &mut places);
     let none = pass(&mut table, row(0), Table::release);
     let first = pass(&mut table, row(1), Table::release);
@@ -80,7 +81,7 @@ fn numbers_from_1_to_255(rt: HostRuntime) {
 
 #[test]
 fn a_taken_number(rt: HostRuntime) {
-    let mut places = [EMPTY; 12];
+    let mut places = [EMPTY; MOST_ROWS];
     let mut table = Table::new(1, &mut places);
     let kept = pass(&mut table, row(1), Table::keep);
     let again = pass(&mut table, row(1), Table::release);
@@ -109,4 +110,70 @@ fn a_thirteenth_row_has_no_place(rt: HostRuntime) {
     }
     let next = pass(&mut table, row(13), Table::release);
     assert_eq!(rt; (kept, next), (Ok(()), Err(HoldRefusal::NoPlace.number())));
+}
+
+// A row is held, kept and withdrawn, and the table is asked in between.
+#[test]
+fn a_row_that_comes_and_goes(rt: HostRuntime) -> Result<(), Fail> {
+    let mut places = [EMPTY; 3];
+    let mut table = Table::new(7, &mut places);
+    assert_eq!(rt; (table.room(), table.state_of(5)), (3, State::Free));
+    let asked = pass(&mut table, row(5), |table, hold| {
+        let numbers = (hold.table(), hold.row());
+        let state = table.state_of(5);
+        let early = table.withdraw(5);
+        table.keep(hold)?;
+        Ok((numbers, state, early))
+    });
+    assert_eq!(rt;
+        asked,
+        Ok(((7, 5), State::Held(5), Err(WithdrawRefusal::NotKept)))
+    );
+    assert_eq!(rt; (table.room(), table.state_of(5)), (2, State::Kept(5)));
+    assert_eq!(rt; table.bound(5), Ok((1, 0)));
+    let answers = table.answers()?;
+    assert_eq!(rt; answers.rows().get(0).map(|row| row.blocking), Some(0));
+    assert_eq!(rt; table.withdraw(5), Ok(()));
+    assert_eq!(rt; table.withdraw(5), Err(WithdrawRefusal::NoSuchRow));
+    assert_eq!(rt; table.bound(5), Err(BoundRefusal::NoSuchRow));
+    Ok(())
+}
+
+#[test]
+fn numbers_of_refusals(rt: HostRuntime) {
+    let judged = HoldRefusal::from(JudgeRefusal::TooMany);
+    assert_eq!(rt; [judged.number(), HoldRefusal::Late(3).number()], [10, 11]);
+    assert_eq!(rt;
+        [
+            WithdrawRefusal::NoSuchRow.number(),
+            WithdrawRefusal::NotKept.number(),
+            BoundRefusal::NoSuchRow.number(),
+        ],
+        [13, 14, 13]
+    );
+}
+
+// A hold of one table is handed to another of the same size: it comes back, and is spent where it is from.
+#[test]
+fn a_hold_of_another_table(rt: HostRuntime) {
+    let mut places = [EMPTY; 1];
+    let mut table = Table::new(1, &mut places);
+    let mut others = [EMPTY; 1];
+    let mut other = Table::new(2, &mut others);
+    let mut refused = None;
+    let spent = pass(&mut table, row(1), |table, hold| match other.keep(hold) {
+        Ok(()) => Ok(()),
+        Err(refusal) => {
+            refused = Some(refusal.number());
+            let SpendRefusal::NotHeld(hold) = refusal;
+            table.release(hold)
+        }
+    });
+    assert_eq!(rt; (spent, refused), (Ok(()), Some(12)));
+}
+
+// The answer is `true` always; what is proved is the contract.
+#[test]
+fn figures_hold(rt: HostRuntime) {
+    assert!(rt; worked_figures_hold());
 }
