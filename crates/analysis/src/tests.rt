@@ -1,4 +1,4 @@
-// Worked examples, run on the code.
+// Worked examples of each public call, run on the code.
 use super::*;
 use demand::Every;
 use std::test::Fail;
@@ -77,10 +77,34 @@ fn suspensions_alone(rt: HostRuntime) -> Result<(), Fail> {
 
 #[test]
 fn thirteen_rows_are_too_many(rt: HostRuntime) {
-    let places = [task(1, 1, 0, 900, 0, 1, 1000); 12];
+    let places = [task(1, 1, 0, 900, 0, 1, 1000); MOST_ROWS];
     assert!(rt; judge(&places, &None).is_ok());
     assert_eq!(rt;
         judge(&places, &places[0]).err(),
         Some(JudgeRefusal::TooMany)
     );
+}
+
+// Rows 1 and 3 use lock 0, and row 2 alone uses lock 5. No row uses the others.
+#[test]
+fn ceilings_of_three_rows(rt: HostRuntime) {
+    let rank = |priority, lock_0, lock_5| Rank {
+        row: Row {
+            priority,
+            sections: [lock_0, 0, 0, 0, 0, lock_5, 0, 0],
+            ..Row::default()
+        },
+        place: 0,
+    };
+    let ceilings = ceilings_of(&[rank(30, 1, 0), rank(20, 0, 4), rank(10, 2, 0)]);
+    let mut expected = [None; LOCKS];
+    expected[0] = Some(30);
+    expected[5] = Some(20);
+    assert_eq!(rt; ceilings, expected);
+}
+
+// The answer is `true` always; what is proved is the contract.
+#[test]
+fn figures_hold(rt: HostRuntime) {
+    assert!(rt; garage_figures_hold());
 }
