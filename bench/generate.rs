@@ -1,7 +1,6 @@
-// Makes sets for the planners, the same for the same arguments:
-// `generate SEED SETS [ROWS LONGEST]`, with twelve rows and periods up to a million if not said.
+// Makes sets for the planners, the same for the same arguments: `generate sets SEED COUNT [ROWS LONGEST]`, with twelve rows
+// and periods up to a million if not said. `generate files` makes the same sets as plan files, one after the other.
 
-use std::fmt::Write;
 use std::ops::RangeInclusive;
 
 const LOCKS: usize = 8;
@@ -63,19 +62,101 @@ fn shares(random: &mut Random, rows: usize, total: f64) -> Vec<f64> {
     shares
 }
 
+#[derive(Clone, Copy)]
+enum Jobs {
+    Every { job: u64 },
+    // one of each `group` jobs in a row takes `heavy`
+    Heavy { job: u64, heavy: u64, group: u64 },
+}
+
 // All of a row but its number.
-fn row(random: &mut Random, priority: usize, period: u64, share: f64, shortest: u64) -> String {
+struct Row {
+    priority: usize,
+    suspension: u64,
+    suspensions: u64,
+    deadline: u64,
+    // how late a job may come; a plan file alone can say it
+    delay: u64,
+    sections: [u64; LOCKS],
+    jobs: Jobs,
+    period: u64,
+}
+
+// How many times as long as its row says each job of a plan file takes: a fraction.
+const SLOWER: (u64, u64) = (5, 4);
+
+// What a row has to say of a time, for the job to take as long as this or hardly less.
+fn faster(time: u64) -> u64 {
+    (time * SLOWER.1 / SLOWER.0).max(1)
+}
+
+impl Jobs {
+    fn faster(self) -> Jobs {
+        match self {
+            Jobs::Every { job } => Jobs::Every { job: faster(job) },
+            Jobs::Heavy { job, heavy, group } => Jobs::Heavy {
+                job: faster(job),
+                heavy: faster(heavy),
+                group,
+            },
+        }
+    }
+
+    fn words(self) -> Vec<String> {
+        match self {
+            Jobs::Every { job } => vec!["every".to_string(), job.to_string()],
+            Jobs::Heavy { job, heavy, group } => {
+                let numbers = [job, heavy, group].map(|number| number.to_string());
+                [vec!["heavy".to_string()], numbers.to_vec()].concat()
+            }
+        }
+    }
+}
+
+impl Row {
+    // The row as it stands in a plan file. Every third one has a delay.
+    fn in_file(self, index: usize) -> Row {
+        let delay = if index % 3 == 0 { self.period / 20 } else { 0 };
+        Row {
+            deadline: self.deadline.min(self.period - delay),
+            delay,
+            sections: self.sections.map(|length| length * SLOWER.1 / SLOWER.0),
+            jobs: self.jobs.faster(),
+            ..self
+        }
+    }
+
+    // The words of its line. In a set there is no delay.
+    fn words(&self, number: usize, delay: Option<u64>) -> Vec<String> {
+        let mut numbers = vec![
+            number as u64,
+            self.priority as u64,
+            self.suspension,
+            self.suspensions,
+            self.deadline,
+        ];
+        numbers.extend(delay);
+        numbers.extend(self.sections);
+        let mut words = vec!["row".to_string()];
+        words.extend(numbers.iter().map(u64::to_string));
+        words.extend(self.jobs.words());
+        words.push(self.period.to_string());
+        words
+    }
+}
+
+fn row(random: &mut Random, priority: usize, period: u64, share: f64, shortest: u64) -> Row {
     let work = share * period as f64;
-    let (kind, job) = if random.chance(0.25) {
+    let (jobs, job) = if random.chance(0.25) {
         // the work of `group` jobs stays the same
         let group = random.pick(2..=16);
         let factor = random.between(1.1, 1.6);
         let job = (work / (1.0 + (factor - 1.0) / group as f64)).max(1.0) as u64;
         let heavy = period.min((job as f64 * factor) as u64);
-        (format!("heavy {job} {heavy} {group} {period}"), job)
+        (Jobs::Heavy { job, heavy, group }, job)
     } else {
         let job = work.max(1.0) as u64;
-        (format!("every {job} {period}"), job)
+        (Jobs::Every { job }, job)
     };
     let (suspension, suspensions) = if random.chance(0.6) {
         let suspension = period as f64 * random.between(0.01, 0.2);
@@ -95,15 +176,20 @@ fn row(random: &mut Random, priority: usize, period: u64, share: f64, shortest: 
             sections[lock] = random.pick(1..=job.min(shortest / 40).max(1));
         }
     }
-    let mut text = format!("{priority} {suspension} {suspensions} {deadline}");
-    for section in sections {
-        write!(text, " {section}").unwrap();
+    Row {
+        priority,
+        suspension,
+        suspensions,
+        deadline,
+        delay: 0,
+        sections,
+        jobs,
+        period,
     }
-    text + " " + &kind
 }
 
 // The rows of a set, in any order. A shorter period has a higher priority.
-fn set(random: &mut Random, rows: usize, longest: u64) -> Vec<String> {
+fn set(random: &mut Random, rows: usize, longest: u64) -> Vec<Row> {
     let periods = periods(random, rows, longest);
     let total = random.between(0.7, 0.95);
     let shares = shares(random, rows, total);
@@ -116,28 +202,45 @@ fn set(random: &mut Random, rows: usize, longest: u64) -> Vec<String> {
     set
 }
 
+fn print_set(set: Vec<Row>) {
+    for (row, number) in set.iter().zip(1..) {
+        println!("{}", row.words(number, None).join(" "));
+    }
+    println!("judge");
+}
+
+fn print_file(set: Vec<Row>) {
+    println!("clock\t{}\t{}", SLOWER.0, SLOWER.1);
+    for (index, row) in set.into_iter().enumerate() {
+        let row = row.in_file(index);
+        println!("{}", row.words(index + 1, Some(row.delay)).join("\t"));
+    }
+}
+
+fn usage() -> ! {
+    eprintln!(
+        "usage: generate sets|files SEED COUNT [ROWS LONGEST], ROWS 1 to 64, LONGEST 1000 to 1000000"
+    );
+    std::process::exit(2);
+}
+
 fn main() {
-    let arguments: Option<Vec<u64>> = std::env::args()
-        .skip(1)
-        .map(|word| word.parse().ok())
-        .collect();
-    let (seed, sets, rows, longest) = match arguments.as_deref() {
-        Some(&[seed, sets]) => (seed, sets, 12, 1_000_000),
-        Some(&[seed, sets, rows @ 1..=64, longest @ 1_000..=1_000_000]) => {
-            (seed, sets, rows, longest)
+    let mut arguments = std::env::args().skip(1);
+    let print = match arguments.next().as_deref() {
+        Some("sets") => print_set,
+        Some("files") => print_file,
+        _ => usage(),
+    };
+    let numbers: Option<Vec<u64>> = arguments.map(|word| word.parse().ok()).collect();
+    let (seed, count, rows, longest) = match numbers.as_deref() {
+        Some(&[seed, count]) => (seed, count, 12, 1_000_000),
+        Some(&[seed, count, rows @ 1..=64, longest @ 1_000..=1_000_000]) => {
+            (seed, count, rows, longest)
         }
-        _ => {
-            eprintln!(
-                "usage: generate SEED SETS [ROWS LONGEST], ROWS 1 to 64, LONGEST 1000 to 1000000"
-            );
-            std::process::exit(2);
-        }
+        _ => usage(),
     };
     let mut random = Random(seed);
-    for _ in 0..sets {
-        for (index, row) in set(&mut random, rows as usize, longest).iter().enumerate() {
-            println!("row {} {row}", index + 1);
-        }
-        println!("judge");
+    for _ in 0..count {
+        print(set(&mut random, rows as usize, longest));
     }
 }
