@@ -1,49 +1,55 @@
-// The lines of the input: a row, or the end of a set. Fields stand one blank apart.
+// The lines of the input: a row, or what is asked of the rows before it. Fields stand one blank apart.
 use analysis::{LOCKS, Row, Task};
-use anyhow::{Context, anyhow};
 use demand::{Either, Every, Heavy, Left, Right};
-use std::array;
-use std::str::{FromStr, Split};
+use std::str::Split;
 
 // The kinds of demand that a row can have.
 pub(crate) type Demand = Either<Every, Heavy>;
 
-// A line: a row, or the end of a set, which its name says better than an `Option` would.
+// What is asked of a set of rows.
+#[derive(Clone, Copy)]
+pub(crate) enum Question {
+    // what is found for each row
+    Judge,
+    // whether the last row can be held over the others, so many times
+    Hold(u32),
+}
+
+// A line: a row, or what is asked of the rows before it.
 #[derive(Clone, Copy)]
 pub(crate) enum Line {
     Row(Task<Demand>),
-    Judge,
+    Ask(Question),
 }
 
-impl FromStr for Line {
-    type Err = anyhow::Error;
-
-    fn from_str(text: &str) -> anyhow::Result<Line> {
-        let mut fields = text.split(' ');
-        let line = match fields.next() {
-            Some("row") => Line::Row(task(&mut fields)?),
-            Some("judge") => Line::Judge,
-            _ => return Err(anyhow!("neither a row nor 'judge'")),
-        };
-        match fields.next() {
-            None => Ok(line),
-            Some(_) => Err(anyhow!("there are too many fields")),
-        }
+// What a line says, if it is one of these. Of one that is not, its number says enough to who made the input; and an error with
+// a text in it, handed on from each number, took more time than the numbers.
+pub(crate) fn read_line(text: &str) -> Option<Line> {
+    let mut fields = text.split(' ');
+    let line = match fields.next()? {
+        "row" => Line::Row(task(&mut fields)?),
+        "judge" => Line::Ask(Question::Judge),
+        "hold" => Line::Ask(Question::Hold(number(&mut fields)?)),
+        _ => return None,
+    };
+    match fields.next() {
+        None => Some(line),
+        Some(_) => None,
     }
 }
 
-fn task(fields: &mut Split<'_, char>) -> anyhow::Result<Task<Demand>> {
+fn task(fields: &mut Split<'_, char>) -> Option<Task<Demand>> {
     let row = row(fields)?;
-    let kind = match fields.next() {
-        Some("every") => Left(every(fields)?),
-        Some("heavy") => Right(heavy(fields)?),
-        _ => return Err(anyhow!("a row is neither 'every' nor 'heavy'")),
+    let kind = match fields.next()? {
+        "every" => Left(every(fields)?),
+        "heavy" => Right(heavy(fields)?),
+        _ => return None,
     };
-    Ok(Task { row, kind })
+    Some(Task { row, kind })
 }
 
-fn row(fields: &mut Split<'_, char>) -> anyhow::Result<Row> {
-    Ok(Row {
+fn row(fields: &mut Split<'_, char>) -> Option<Row> {
+    Some(Row {
         number: number(fields)?,
         priority: number(fields)?,
         suspension: number(fields)?,
@@ -53,19 +59,23 @@ fn row(fields: &mut Split<'_, char>) -> anyhow::Result<Row> {
     })
 }
 
-fn sections(fields: &mut Split<'_, char>) -> anyhow::Result<[u32; LOCKS]> {
-    array::try_from_fn(|_| number(fields))
+fn sections(fields: &mut Split<'_, char>) -> Option<[u32; LOCKS]> {
+    let mut sections = [0; LOCKS];
+    for section in &mut sections {
+        *section = number(fields)?;
+    }
+    Some(sections)
 }
 
-fn every(fields: &mut Split<'_, char>) -> anyhow::Result<Every> {
-    Ok(Every {
+fn every(fields: &mut Split<'_, char>) -> Option<Every> {
+    Some(Every {
         job: number(fields)?,
         period: number(fields)?,
     })
 }
 
-fn heavy(fields: &mut Split<'_, char>) -> anyhow::Result<Heavy> {
-    Ok(Heavy {
+fn heavy(fields: &mut Split<'_, char>) -> Option<Heavy> {
+    Some(Heavy {
         job: number(fields)?,
         heavy: number(fields)?,
         among: number(fields)?,
@@ -73,7 +83,6 @@ fn heavy(fields: &mut Split<'_, char>) -> anyhow::Result<Heavy> {
     })
 }
 
-fn number(fields: &mut Split<'_, char>) -> anyhow::Result<u32> {
-    let field = fields.next().context("a number is missing")?;
-    Ok(field.parse::<u32>()?)
+fn number(fields: &mut Split<'_, char>) -> Option<u32> {
+    fields.next()?.parse::<u32>().ok()
 }

@@ -1,16 +1,19 @@
-// Judges sets of rows from standard input, and prints what is found for each.
+// Judges sets of rows from standard input, or holds their last row, and prints what is found for each.
 #![tactic(auto)]
 
 ghost use Rattle.std.specs.Prelude.{◌≡◌, ◌++◌, string_bytes, OnOk};
 ghost use Rattle.judge_sets.specs.Lines.{answer_line};
 
+mod holding;
 mod line;
 
 use analysis::{Answer, JudgeRefusal, Task, judge};
 use anyhow::anyhow;
-use line::{Demand, Line};
+use holding::hold_last;
+use line::{Demand, Line, Question, read_line};
 use std::alloc::AllocError;
 use std::io::{BufRead, BufReader};
+use table::HoldRefusal;
 
 // Appends the line of one answer.
 fn write_answer(text: &mut String, answer: &Answer) -> Result<(), AllocError>
@@ -37,11 +40,24 @@ fn write_set(text: &mut String, places: &[Option<Task<Demand>>]) -> Result<(), A
     writeln!(text, "end")
 }
 
+// Appends what comes of holding the last row of one set.
+fn write_holds(
+    text: &mut String,
+    places: &[Option<Task<Demand>>],
+    times: u32,
+) -> Result<(), AllocError> {
+    match hold_last(places, times) {
+        Ok(()) => writeln!(text, "held {times}")?,
+        Err(HoldRefusal::Late(number)) => writeln!(text, "late {number}")?,
+        Err(refusal) => writeln!(text, "refused {}", refusal.number())?,
+    }
+    writeln!(text, "end")
+}
+
 // The line at an index of the input.
 fn line_at(index: usize, text: &str) -> anyhow::Result<Line> {
     let number = index.saturating_add(1);
-    text.parse::<Line>()
-        .map_err(|error| anyhow!("line {number}: {error}"))
+    read_line(text).ok_or_else(|| anyhow!("line {number}: neither a row, nor 'judge' or 'hold'"))
 }
 
 fn run(rt: &HostRuntime) -> anyhow::Result<()> {
@@ -51,16 +67,19 @@ fn run(rt: &HostRuntime) -> anyhow::Result<()> {
     for (index, text) in lines.enumerate() {
         match line_at(index, text?.as_str())? {
             Line::Row(task) => places.push(Some(task))?,
-            Line::Judge => {
+            Line::Ask(question) => {
                 let mut found = String::new(heap);
-                write_set(&mut found, places.as_slice())?;
+                match question {
+                    Question::Judge => write_set(&mut found, places.as_slice())?,
+                    Question::Hold(times) => write_holds(&mut found, places.as_slice(), times)?,
+                }
                 rt.print(found)?;
                 places.clear();
             }
         }
     }
     if !places.is_empty() {
-        return Err(anyhow!("the last set has no 'judge'"));
+        return Err(anyhow!("nothing is asked of the last set"));
     }
     Ok(())
 }

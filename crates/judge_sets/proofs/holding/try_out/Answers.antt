@@ -1,0 +1,18 @@
+use Rattle.table.specs.Account.{with_released}
+use Rattle.judge_sets.proofs.Spent.{claim, not_refused}
+use Rattle.judge_sets.proofs.holding.try_out.Goals as goal
+
+pub returns-in_err-hold : goal.returns-in_err-hold
+returns-in_err-hold c =
+    let p = c.in_err-hold.ensures.account c.requires.0 c.requires.1 in
+    (p.0, p.2)
+
+pub unwrap-requires : goal.unwrap-requires
+unwrap-requires c =
+    not_refused c.args.table.now c.hold.new.self c.release.new.self (claim c.args.task.now) c.in_ok-hold.hold (λ a. with_released a c.in_ok-hold.hold) c.release.result c.in_ok-hold.ensures.account c.release.ensures.account c.requires.0 c.requires.1
+
+pub returns : goal.returns
+returns c =
+    let p = c.in_ok-hold.ensures.account c.requires.0 c.requires.1 in
+    let q = c.release.ensures.account p.0 p.2 in
+    (q.0, q.2)
