@@ -1,7 +1,9 @@
 // The lines of the input: a row, or what is asked of the rows before it. Fields stand one blank apart.
 use analysis::{LOCKS, Row, Task};
 use demand::{Either, Every, Heavy, Left, Right};
-use std::str::Split;
+use std::fmt;
+use std::num::ParseIntError;
+use std::str::{FromStr, Split};
 
 // The kinds of demand that a row can have.
 pub(crate) type Demand = Either<Every, Heavy>;
@@ -22,34 +24,58 @@ pub(crate) enum Line {
     Ask(Question),
 }
 
-// What a line says, if it is one of these. Of one that is not, its number says enough to who made the input; and an error with
-// a text in it, handed on from each number, took more time than the numbers.
-pub(crate) fn read_line(text: &str) -> Option<Line> {
-    let mut fields = text.split(' ');
-    let line = match fields.next()? {
-        "row" => Line::Row(task(&mut fields)?),
-        "judge" => Line::Ask(Question::Judge),
-        "hold" => Line::Ask(Question::Hold(number(&mut fields)?)),
-        _ => return None,
-    };
-    match fields.next() {
-        None => Some(line),
-        Some(_) => None,
+// What is wrong with a line. It is no `anyhow::Error`, which costs more to hand on from each number than the number.
+#[derive(Drop)]
+pub(crate) enum LineError {
+    Word,
+    Kind,
+    Missing,
+    Number(ParseIntError),
+    TooMany,
+}
+
+impl fmt::Display for LineError {
+    fn fmt<W: fmt::Write>(&self, f: &mut fmt::Formatter<W>) -> fmt::Result {
+        match self {
+            LineError::Word => f.write_str("neither a row, nor 'judge' or 'hold'"),
+            LineError::Kind => f.write_str("a row is neither 'every' nor 'heavy'"),
+            LineError::Missing => f.write_str("a number is missing"),
+            LineError::Number(error) => write!(f, "{error}"),
+            LineError::TooMany => f.write_str("there are too many fields"),
+        }
     }
 }
 
-fn task(fields: &mut Split<'_, char>) -> Option<Task<Demand>> {
-    let row = row(fields)?;
-    let kind = match fields.next()? {
-        "every" => Left(every(fields)?),
-        "heavy" => Right(heavy(fields)?),
-        _ => return None,
-    };
-    Some(Task { row, kind })
+impl FromStr for Line {
+    type Err = LineError;
+
+    fn from_str(text: &str) -> Result<Line, LineError> {
+        let mut fields = text.split(' ');
+        let line = match fields.next() {
+            Some("row") => Line::Row(task(&mut fields)?),
+            Some("judge") => Line::Ask(Question::Judge),
+            Some("hold") => Line::Ask(Question::Hold(number(&mut fields)?)),
+            _ => return Err(LineError::Word),
+        };
+        match fields.next() {
+            None => Ok(line),
+            Some(_) => Err(LineError::TooMany),
+        }
+    }
 }
 
-fn row(fields: &mut Split<'_, char>) -> Option<Row> {
-    Some(Row {
+fn task(fields: &mut Split<'_, char>) -> Result<Task<Demand>, LineError> {
+    let row = row(fields)?;
+    let kind = match fields.next() {
+        Some("every") => Left(every(fields)?),
+        Some("heavy") => Right(heavy(fields)?),
+        _ => return Err(LineError::Kind),
+    };
+    Ok(Task { row, kind })
+}
+
+fn row(fields: &mut Split<'_, char>) -> Result<Row, LineError> {
+    Ok(Row {
         number: number(fields)?,
         priority: number(fields)?,
         suspension: number(fields)?,
@@ -59,23 +85,24 @@ fn row(fields: &mut Split<'_, char>) -> Option<Row> {
     })
 }
 
-fn sections(fields: &mut Split<'_, char>) -> Option<[u32; LOCKS]> {
+// A loop, since `try_from_fn` copies the array for each number.
+fn sections(fields: &mut Split<'_, char>) -> Result<[u32; LOCKS], LineError> {
     let mut sections = [0; LOCKS];
     for section in &mut sections {
         *section = number(fields)?;
     }
-    Some(sections)
+    Ok(sections)
 }
 
-fn every(fields: &mut Split<'_, char>) -> Option<Every> {
-    Some(Every {
+fn every(fields: &mut Split<'_, char>) -> Result<Every, LineError> {
+    Ok(Every {
         job: number(fields)?,
         period: number(fields)?,
     })
 }
 
-fn heavy(fields: &mut Split<'_, char>) -> Option<Heavy> {
-    Some(Heavy {
+fn heavy(fields: &mut Split<'_, char>) -> Result<Heavy, LineError> {
+    Ok(Heavy {
         job: number(fields)?,
         heavy: number(fields)?,
         among: number(fields)?,
@@ -83,6 +110,7 @@ fn heavy(fields: &mut Split<'_, char>) -> Option<Heavy> {
     })
 }
 
-fn number(fields: &mut Split<'_, char>) -> Option<u32> {
-    fields.next()?.parse::<u32>().ok()
+fn number(fields: &mut Split<'_, char>) -> Result<u32, LineError> {
+    let field = fields.next().ok_or(LineError::Missing)?;
+    field.parse::<u32>().map_err(LineError::Number)
 }

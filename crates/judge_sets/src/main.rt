@@ -10,7 +10,7 @@ mod line;
 use analysis::{Answer, JudgeRefusal, Task, judge};
 use anyhow::anyhow;
 use holding::hold_last;
-use line::{Demand, Line, Question, read_line};
+use line::{Demand, Line, Question};
 use std::alloc::AllocError;
 use std::io::{BufRead, BufReader};
 use table::HoldRefusal;
@@ -57,7 +57,8 @@ fn write_holds(
 // The line at an index of the input.
 fn line_at(index: usize, text: &str) -> anyhow::Result<Line> {
     let number = index.saturating_add(1);
-    read_line(text).ok_or_else(|| anyhow!("line {number}: neither a row, nor 'judge' or 'hold'"))
+    text.parse::<Line>()
+        .map_err(|error| anyhow!("line {number}: {error}"))
 }
 
 fn run(rt: &HostRuntime) -> anyhow::Result<()> {

@@ -1,5 +1,5 @@
 -- A row line that is refused, and one whose row is held and kept. Assumes nothing.
-use Rattle.std.proofs.Common.{◌≡◌, ℕ, ◌-◌, Bool, cond, ◌≢◌, List, [], ◌∷◌, ◌++◌, length, Ok, Err, IsOk, Result, sym, refl, ap, ◌∙◌, subst}
+use Rattle.std.proofs.Common.{◌≡◌, ℕ, ◌-◌, Bool, cond, ◌≢◌, List, [], ◌∷◌, ◌++◌, length, Ok, sym, refl, ap, ◌∙◌, subst}
 use Rattle.analysis.specs.declared.Row.{Row}
 use Rattle.analysis.specs.declared.Task.{Task}
 use Rattle.analysis.specs.Ranks.{Claim}
@@ -7,12 +7,10 @@ use Rattle.demand.specs.declared.jitter.Delayed.{Delayed}
 use Rattle.demand.specs.Demand.{Demand}
 use Rattle.demand.specs.Refusals.{first, delayed_checks}
 use Rattle.table.specs.declared.Hold.{Hold as Token}
-use Rattle.table.specs.declared.SpendRefusal.{SpendRefusal}
-use Rattle.table.specs.declared.SpendRefusal.TheVariants.{NotHeld}
 use Rattle.table.specs.declared.Table.{Table}
-use Rattle.table.specs.Account.{Account, Accepted, Holds, Spends, number_of, unspent, with_row, with_kept}
+use Rattle.table.specs.Account.{Account, Accepted, number_of, with_row, with_kept}
 use Rattle.table.specs.Agreement.{AgreesWith}
-use Rattle.table.proofs.Given.{clash, given, given_bears}
+use Rattle.table.proofs.Given.{Held, Spending, given_bears}
 use Rattle.demand.specs.declared.speed.Factor.{Factor}
 use Rattle.planfile.specs.declared.fault.Blame.{Blame}
 use Rattle.planfile.specs.Fault.{nothing, by, first_blame}
@@ -98,32 +96,13 @@ kept : (rows : List Claim) (c : Claim) (h : Token) → Accepted (taking rows) c 
 kept rows c h accepted =
     ap (λ b. record { number = 0; room = 12; rows = c ∷ rows; holds = cond b [] (record { table = 0; row = number_of c } ∷ []) }) (given_bears (taking rows) c h accepted)
 
-module _ {K : Type 0} (demand : K → Demand) (t u v : Table K) (rows : List Claim) (c : Claim) (h : Token) where
-  -- what a hold that is accepted does to each account
-  abbrev pub Held : Type 0
-  Held = (a : Account) → AgreesWith demand a t → (b : Account) × Holds a c (Ok h) b × AgreesWith demand b u
-
-  -- what keeping the hold does to each account
-  abbrev pub Keeping : Result (Unit {0}) SpendRefusal → Type 0
-  Keeping r = (a : Account) → AgreesWith demand a u → (b : Account) × Spends a h (with_kept a h) r b × AgreesWith demand b v
-
-  -- a hold in hand is kept without refusal
-  pub not_refused : (r : Result (Unit {0}) SpendRefusal) → Held → Keeping r → AgreesWith demand (taking rows) t → IsOk r
-  not_refused (Ok x) hold keep agrees = refl
-  not_refused (Err (NotHeld back)) hold keep agrees =
-      let p = hold (taking rows) agrees in
-      let q = keep p.0 p.2 in
-      absurd
-      (clash (unspent h.table h.row p.0.holds)
-      (ap (λ (a : Account). unspent h.table h.row a.holds) p.1.1 ∙ given (taking rows) c h p.1.0)
-      q.1.0)
-
-  pub held_and_kept : Held → Keeping (Ok tt) → AgreesWith demand (taking rows) t → Accepted (taking rows) c h × AgreesWith demand (taking (c ∷ rows)) v
-  held_and_kept hold keep agrees =
-      let p = hold (taking rows) agrees in
-      let q = keep p.0 p.2 in
-      let e : q.0 ≡ taking (c ∷ rows) = q.1.1 ∙ (ap (λ (a : Account). with_kept a h) p.1.1 ∙ kept rows c h p.1.0) in
-      (p.1.0, subst (λ (a : Account). AgreesWith demand a v) e q.2)
+-- so the account has the row, after both calls
+pub held_and_kept : {K : Type 0} (demand : K → Demand) (t u v : Table K) (rows : List Claim) (c : Claim) (h : Token) → Held demand t u v c h → Spending demand t u v c h (λ a. with_kept a h) (Ok tt) → AgreesWith demand (taking rows) t → Accepted (taking rows) c h × AgreesWith demand (taking (c ∷ rows)) v
+held_and_kept demand t u v rows c h hold keep agrees =
+    let p = hold (taking rows) agrees in
+    let q = keep p.0 p.2 in
+    let e : q.0 ≡ taking (c ∷ rows) = q.1.1 ∙ (ap (λ (a : Account). with_kept a h) p.1.1 ∙ kept rows c h p.1.0) in
+    (p.1.0, subst (λ (a : Account). AgreesWith demand a v) e q.2)
 
 -- the row that is held, with the meaning of its kind
 abbrev pub held_claim : Factor → Task (Delayed Jobs) → Claim

@@ -1,5 +1,7 @@
+-- The account that agreed before the hold answers both calls.
 use Rattle.table.specs.Account.{with_released}
-use Rattle.judge_sets.proofs.Spent.{claim, not_refused}
+use Rattle.table.proofs.Given.{not_refused}
+use Rattle.judge_sets.specs.Lines.{set_demand}
 use Rattle.judge_sets.proofs.holding.try_out.Goals as goal
 
 pub returns-in_err-hold : goal.returns-in_err-hold
@@ -9,7 +11,8 @@ returns-in_err-hold c =
 
 pub unwrap-requires : goal.unwrap-requires
 unwrap-requires c =
-    not_refused c.args.table.now c.hold.new.self c.release.new.self (claim c.args.task.now) c.in_ok-hold.hold (λ a. with_released a c.in_ok-hold.hold) c.release.result c.in_ok-hold.ensures.account c.release.ensures.account c.requires.0 c.requires.1
+    not_refused set_demand c.args.table.now c.hold.new.self c.release.new.self (record { row = c.args.task.now.row; demand = set_demand c.args.task.now.kind })
+    c.in_ok-hold.hold (λ a. with_released a c.in_ok-hold.hold) c.release.result c.in_ok-hold.ensures.account c.release.ensures.account c.requires.0 c.requires.1
 
 pub returns : goal.returns
 returns c =

@@ -4,9 +4,10 @@ use Rattle.std.proofs.lemmas.Result.{err_from_is_err_and}
 use Rattle.analysis.specs.Ranks.{Claim}
 use Rattle.planfile.specs.Checks.{row_demand}
 use Rattle.planfile.specs.Reading.{taking}
-use Rattle.table.specs.Account.{Refused, Accepted}
+use Rattle.table.specs.Account.{Refused, Accepted, with_kept}
 use Rattle.table.specs.Agreement.{AgreesWith}
-use Rattle.planfile.proofs.Taking.{not_refused, held_and_kept, held_claim, same_claim}
+use Rattle.table.proofs.Given.{not_refused}
+use Rattle.planfile.proofs.Taking.{held_and_kept, held_claim, same_claim}
 use Rattle.planfile.proofs.row.take_row.Goals as goal
 
 pub returns-in_err-hold : goal.returns-in_err-hold
@@ -19,8 +20,8 @@ returns-in_err-hold c rows agrees =
 
 pub unwrap-requires : goal.unwrap-requires
 unwrap-requires c =
-    not_refused row_demand c.args.table.now c.hold.new.self c.keep.new.self c.requires.0
-    (held_claim c.args.clock c.in_ok-row.field-0) c.in_ok-hold.hold c.keep.result c.in_ok-hold.ensures.account c.keep.ensures.account c.requires.1
+    not_refused row_demand c.args.table.now c.hold.new.self c.keep.new.self (held_claim c.args.clock c.in_ok-row.field-0) c.in_ok-hold.hold
+    (λ a. with_kept a c.in_ok-hold.hold) c.keep.result c.in_ok-hold.ensures.account c.keep.ensures.account (taking c.requires.0) c.requires.1
 
 pub returns : goal.returns
 returns c rows agrees =
