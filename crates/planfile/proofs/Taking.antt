@@ -1,5 +1,5 @@
 -- A row line that is refused, and one whose row is held and kept. Assumes nothing.
-use Rattle.std.proofs.Common.{◌≡◌, ℕ, ◌-◌, Bool, cond, ◌≢◌, List, [], ◌∷◌, ◌++◌, length, Ok, sym, refl, ap, ◌∙◌, subst}
+use Rattle.std.proofs.Common.{◌≡◌, ℕ, ◌-◌, Bool, cond, ◌≢◌, List, [], ◌∷◌, ◌++◌, length, Ok, sym, ap, ◌∙◌, subst}
 use Rattle.analysis.specs.declared.Row.{Row}
 use Rattle.analysis.specs.declared.Task.{Task}
 use Rattle.analysis.specs.Ranks.{Claim}
