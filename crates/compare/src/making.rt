@@ -30,7 +30,7 @@ fn number_at(random: &mut Random, place: u32) -> u32 {
 }
 
 // Up to three locks are used, each by few rows.
-fn some_sections(random: &mut Random, longest: u32) -> [u32; 8] {
+pub(crate) fn some_sections(random: &mut Random, longest: u32) -> [u32; 8] {
     array::from_fn(|lock| {
         if (lock < 2 || lock == 7) && random.one_in(4) {
             random.within(1, longest)
@@ -41,7 +41,7 @@ fn some_sections(random: &mut Random, longest: u32) -> [u32; 8] {
 }
 
 // A suspension whose numbers are both 0, or neither.
-fn some_suspension(random: &mut Random) -> Suspension {
+pub(crate) fn some_suspension(random: &mut Random) -> Suspension {
     if random.one_in(3) {
         Suspension {
             length: random.within(1, 6),
@@ -65,7 +65,7 @@ fn loose_suspension(random: &mut Random) -> Suspension {
 }
 
 // Jobs of up to this length, with periods from this one on.
-fn some_jobs(random: &mut Random, longest: u32, shortest: u32) -> Jobs {
+pub(crate) fn some_jobs(random: &mut Random, longest: u32, shortest: u32) -> Jobs {
     let top = random.within(1, longest);
     let job = random.within(1, top);
     let period = random.within(shortest, 40);
@@ -100,7 +100,7 @@ fn odd_jobs(random: &mut Random) -> Jobs {
     }
 }
 
-fn some_factor(random: &mut Random) -> Factor {
+pub(crate) fn some_factor(random: &mut Random) -> Factor {
     let denominator = random.within(1, 5);
     let numerator = denominator.saturating_add(random.below(3));
     Factor {

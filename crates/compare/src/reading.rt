@@ -1,8 +1,9 @@
 // Plan files, read the long way: split into lines and fields, checked in order, row by row.
 ghost use Rattle.std.specs.Prelude.{◌≤◌};
 
+use super::account::{check_row, find_all};
 use super::plain::{Factor, Jobs, Layer, Nested, Plain, Suspension};
-use super::scan::{Found, rank_rows, scan_rows};
+use super::scan::Found;
 use std::alloc::{AllocError, AllocFailed, Global};
 use std::{array, fmt};
 
@@ -244,36 +245,10 @@ fn check_jobs(jobs: Jobs, delay: u32) -> Result<(), Check> {
     Ok(())
 }
 
-// The checks of a row among the rows above it in the file, but for lateness.
-fn check_row(rows: &[Plain], row: &Plain) -> Result<(), Check> {
-    let is_name = |n: u32| (1..=255).contains(&n);
-    if !is_name(row.number) || rows.iter().any(|other| other.number == row.number) {
-        return Err(Check::Number);
-    }
-    if !is_name(row.priority) || rows.iter().any(|other| other.priority == row.priority) {
-        return Err(Check::Priority);
-    }
-    let Suspension { length, times } = row.suspension;
-    if length > 1_000_000 || times > 63 || (length == 0) != (times == 0) {
-        return Err(Check::Suspension);
-    }
-    if row.deadline == 0 || u64::from(row.deadline) > row.kind.spacing() {
-        return Err(Check::Deadline);
-    }
-    let own = row.kind.own();
-    if row.sections.iter().any(|section| u64::from(*section) > own) {
-        return Err(Check::Sections);
-    }
-    if rows.len() >= 12 {
-        return Err(Check::Rows);
-    }
-    Ok(())
-}
-
 // The row of a line, if nothing but lateness can speak against it below these rows.
 fn row_below(rows: &[Plain], fields: &[&[u8]], clock: Factor) -> Result<Plain, Blame> {
     let row = row_of(fields, clock)?;
-    check_row(rows, &row)?;
+    check_row(rows, 12, &row)?;
     Ok(row)
 }
 
@@ -289,8 +264,7 @@ fn take_line(
     let fields = parts_of(heap, line, b'\t')?;
     let row = row_below(rows.as_slice(), fields.as_slice(), clock).map_err(refuse)?;
     rows.push(row)?;
-    let ranks = rank_rows(heap, rows.as_slice())?;
-    let verdict = scan_rows(heap, ranks.as_slice())?;
+    let verdict = find_all(heap, rows.as_slice())?;
     let found = verdict.map_err(|late| refuse(Blame::Late(late.number)))?;
     Ok(found)
 }

@@ -13,11 +13,11 @@ use std::alloc::{AllocError, Global};
 use std::fmt;
 
 // The jobs inside all layers, then one layer around them, then two.
-type Basic = Either<Every, Heavy>;
+pub(crate) type Basic = Either<Every, Heavy>;
 
-type OneLayer = Either<Basic, Either<Delayed<Basic>, Slowed<Basic>>>;
+pub(crate) type OneLayer = Either<Basic, Either<Delayed<Basic>, Slowed<Basic>>>;
 
-type TwoLayers = Either<OneLayer, Either<Delayed<OneLayer>, Slowed<OneLayer>>>;
+pub(crate) type TwoLayers = Either<OneLayer, Either<Delayed<OneLayer>, Slowed<OneLayer>>>;
 
 // A set as it is passed to `judge`.
 #[derive(Drop)]
@@ -27,7 +27,7 @@ struct Passed {
 }
 
 // What is answered for a set.
-type Verdict = Result<Vec<Found>, JudgeRefusal>;
+pub(crate) type Verdict = Result<Vec<Found>, JudgeRefusal>;
 
 // What was seen of a set: whether a row is late, and how many plans were tried. Each set has both, and neither
 // depends on the other.

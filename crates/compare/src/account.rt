@@ -1,0 +1,208 @@
+// What a table has to answer, worked out from the arguments of its calls alone.
+use super::plain::{Plain, Suspension};
+use super::reading::Check;
+use super::scan::{Found, Scanned, rank_rows, scan_rows};
+use std::alloc::{AllocError, Global};
+
+// The two numbers that a hold bears.
+#[derive(Clone, Copy, PartialEq, Eq, Debug)]
+pub(crate) struct Bears {
+    pub(crate) table: u8,
+    pub(crate) row: u32,
+}
+
+// How the row of a number stands in a table.
+#[derive(Clone, Copy, PartialEq, Eq, Debug)]
+pub(crate) enum Standing {
+    Free,
+    Held(u32),
+    Kept(u32),
+}
+
+// What a call is answered.
+#[derive(Clone, Copy, PartialEq, Eq, Debug)]
+pub(crate) enum Reply {
+    Done,
+    // a row was taken, for a hold with these numbers
+    Taken(Bears),
+    // the bound of a row, and its vector
+    Bound(u32, u32),
+    // refused by this number
+    Refused(u32),
+    // refused since the row of this number would be late
+    Late(u32),
+    // refused, and the hold with these numbers comes back
+    HandedBack(Bears),
+}
+
+// A table's number, how many rows there is room for, its rows with what is found for them, and the holds that are not spent.
+#[derive(Drop)]
+pub(crate) struct Account {
+    number: u8,
+    room: usize,
+    rows: Vec<Plain>,
+    found: Vec<Found>,
+    unspent: Vec<Bears>,
+}
+
+impl Reply {
+    // The number of a refusal.
+    pub(crate) fn refusal(self) -> Option<u32> {
+        match self {
+            Reply::Done | Reply::Taken(_) | Reply::Bound(..) => None,
+            Reply::Refused(number) => Some(number),
+            Reply::Late(_) => Some(11),
+            Reply::HandedBack(_) => Some(12),
+        }
+    }
+}
+
+// The checks of a row that comes to these rows, but for lateness.
+pub(crate) fn check_row(rows: &[Plain], room: usize, row: &Plain) -> Result<(), Check> {
+    let is_name = |n: u32| (1..=255).contains(&n);
+    if !is_name(row.number) || rows.iter().any(|other| other.number == row.number) {
+        return Err(Check::Number);
+    }
+    if !is_name(row.priority) || rows.iter().any(|other| other.priority == row.priority) {
+        return Err(Check::Priority);
+    }
+    let Suspension { length, times } = row.suspension;
+    if length > 1_000_000 || times > 63 || (length == 0) != (times == 0) {
+        return Err(Check::Suspension);
+    }
+    if row.deadline == 0 || u64::from(row.deadline) > row.kind.spacing() {
+        return Err(Check::Deadline);
+    }
+    let own = row.kind.own();
+    if row.sections.iter().any(|section| u64::from(*section) > own) {
+        return Err(Check::Sections);
+    }
+    if rows.len() >= room {
+        return Err(Check::Rows);
+    }
+    Ok(())
+}
+
+// What is found for rows in any order, or the first late one.
+pub(crate) fn find_all(heap: Global, rows: &[Plain]) -> Result<Scanned, AllocError> {
+    let ranks = rank_rows(heap, rows)?;
+    scan_rows(heap, ranks.as_slice())
+}
+
+impl Account {
+    // The account of a new table whose row memory has so many places.
+    pub(crate) fn new(heap: Global, number: u8, places: usize) -> Account {
+        Account {
+            number,
+            room: places.min(12),
+            rows: Vec::new(heap),
+            found: Vec::new(heap),
+            unspent: Vec::new(heap),
+        }
+    }
+
+    pub(crate) fn number(&self) -> u8 {
+        self.number
+    }
+
+    // How many more rows can enter.
+    pub(crate) fn room(&self) -> usize {
+        self.room.saturating_sub(self.rows.len())
+    }
+
+    pub(crate) fn rows(&self) -> &[Plain] {
+        self.rows.as_slice()
+    }
+
+    // What is found for all rows, highest first.
+    pub(crate) fn found(&self) -> &[Found] {
+        self.found.as_slice()
+    }
+
+    fn has_row(&self, number: u32) -> bool {
+        self.rows.iter().any(|row| row.number == number)
+    }
+
+    fn is_held(&self, number: u32) -> bool {
+        self.unspent.iter().any(|hold| hold.row == number)
+    }
+
+    pub(crate) fn standing(&self, number: u32) -> Standing {
+        if !self.has_row(number) {
+            Standing::Free
+        } else if self.is_held(number) {
+            Standing::Held(number)
+        } else {
+            Standing::Kept(number)
+        }
+    }
+
+    // Takes a row out. Leaving a row out makes none late; if it did, nothing is found, and the table's answers differ.
+    fn leave(&mut self, heap: Global, number: u32) -> Result<(), AllocError> {
+        self.rows.retain(|row| row.number != number);
+        let found = find_all(heap, self.rows.as_slice())?;
+        self.found = found.unwrap_or_else(|_| Vec::new(heap));
+        Ok(())
+    }
+
+    // Spends a hold, if one with its numbers is unspent.
+    fn spend(&mut self, hold: Bears) -> bool {
+        let count = self.unspent.len();
+        self.unspent.retain(|other| *other != hold);
+        self.unspent.len() < count
+    }
+
+    pub(crate) fn hold(&mut self, heap: Global, row: &Plain) -> Result<Reply, AllocError> {
+        if let Err(check) = check_row(self.rows.as_slice(), self.room, row) {
+            return Ok(Reply::Refused(check as u32));
+        }
+        let mut rows = Vec::from_slice(heap, self.rows.as_slice())?;
+        rows.push(*row)?;
+        let found = match find_all(heap, rows.as_slice())? {
+            Ok(found) => found,
+            Err(late) => return Ok(Reply::Late(late.number)),
+        };
+        let hold = Bears {
+            table: self.number,
+            row: row.number,
+        };
+        self.unspent.push(hold)?;
+        self.rows = rows;
+        self.found = found;
+        Ok(Reply::Taken(hold))
+    }
+
+    pub(crate) fn keep(&mut self, hold: Bears) -> Reply {
+        if self.spend(hold) {
+            Reply::Done
+        } else {
+            Reply::HandedBack(hold)
+        }
+    }
+
+    pub(crate) fn release(&mut self, heap: Global, hold: Bears) -> Result<Reply, AllocError> {
+        if !self.spend(hold) {
+            return Ok(Reply::HandedBack(hold));
+        }
+        self.leave(heap, hold.row)?;
+        Ok(Reply::Done)
+    }
+
+    pub(crate) fn withdraw(&mut self, heap: Global, number: u32) -> Result<Reply, AllocError> {
+        if !self.has_row(number) {
+            return Ok(Reply::Refused(13));
+        }
+        if self.is_held(number) {
+            return Ok(Reply::Refused(14));
+        }
+        self.leave(heap, number)?;
+        Ok(Reply::Done)
+    }
+
+    pub(crate) fn bound(&self, number: u32) -> Reply {
+        let found = self.found.iter().find(|found| found.number == number);
+        found.map_or(Reply::Refused(13), |found| {
+            Reply::Bound(found.bound, found.vector)
+        })
+    }
+}
