@@ -29,6 +29,10 @@ answered rows r all listed p e f =
     let same : listed ≡ answers_of p.0 = cc in
     rw same p.2
 
+-- so are those that are listed of these answers
+pub listed : (rows : List Claim) (all : Answers) (shown : List Answer) → Answered (loads (ranked rows)) (answers_of all) → shown ≡ answers_of all → Answered (loads (ranked rows)) shown
+listed rows all shown p e = rw e p
+
 -- all is in time, and the report is written
 pub by_report : (text before : List ℕ) (rows : List Claim) (answers : List Answer) (n : ℕ) (after : List ℕ) → first_blame (file_checks text (length before)) ≡ nothing → LinesRead text (Ok rows) → LawfulRows rows → Answered (loads (ranked rows)) answers → Wrote before 0 (report answers) n after → Loaded text before (Ok n) after
 by_report text before rows answers n after pass read lawful given wrote =

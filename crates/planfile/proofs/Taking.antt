@@ -2,13 +2,15 @@
 use Rattle.std.proofs.Common.{◌≡◌, ℕ, ◌-◌, Bool, cond, ◌≢◌, List, [], ◌∷◌, ◌++◌, length, Ok, sym, ap, ◌∙◌, subst}
 use Rattle.analysis.specs.declared.Row.{Row}
 use Rattle.analysis.specs.declared.Task.{Task}
-use Rattle.analysis.specs.Ranks.{Claim}
+use Rattle.analysis.specs.Ranks.{Claim, loads, ranked}
 use Rattle.demand.specs.declared.jitter.Delayed.{Delayed}
 use Rattle.demand.specs.Demand.{Demand}
 use Rattle.demand.specs.Refusals.{first, delayed_checks}
 use Rattle.table.specs.declared.Hold.{Hold as Token}
 use Rattle.table.specs.declared.Table.{Table}
-use Rattle.table.specs.Account.{Account, Accepted, number_of, with_row, with_kept}
+use Rattle.analysis.specs.declared.answers.Answers.{Answers}
+use Rattle.analysis.specs.Judge.{Answered, answers_of}
+use Rattle.table.specs.Account.{Account, Accepted, HoldsAnswered, number_of, with_row, with_kept}
 use Rattle.table.specs.Agreement.{AgreesWith}
 use Rattle.table.proofs.Given.{Held, Spending, given_bears}
 use Rattle.demand.specs.declared.speed.Factor.{Factor}
@@ -96,13 +98,24 @@ kept : (rows : List Claim) (c : Claim) (h : Token) → Accepted (taking rows) c 
 kept rows c h accepted =
     ap (λ b. record { number = 0; room = 12; rows = c ∷ rows; holds = cond b [] (record { table = 0; row = number_of c } ∷ []) }) (given_bears (taking rows) c h accepted)
 
--- so the account has the row, after both calls
-pub held_and_kept : {K : Type 0} (demand : K → Demand) (t u v : Table K) (rows : List Claim) (c : Claim) (h : Token) → Held demand t u v c h → Spending demand t u v c h (λ a. with_kept a h) (Ok tt) → AgreesWith demand (taking rows) t → Accepted (taking rows) c h × AgreesWith demand (taking (c ∷ rows)) v
-held_and_kept demand t u v rows c h hold keep agrees =
-    let p = hold (taking rows) agrees in
-    let q = keep p.0 p.2 in
-    let e : q.0 ≡ taking (c ∷ rows) = q.1.1 ∙ (ap (λ (a : Account). with_kept a h) p.1.1 ∙ kept rows c h p.1.0) in
-    (p.1.0, subst (λ (a : Account). AgreesWith demand a v) e q.2)
+module _ {K : Type 0} (demand : K → Demand) (t u v : Table K) (rows : List Claim) (c : Claim) (h : Token) (all : Answers) where
+  -- what a hold that is accepted does to each account, and what is answered with it
+  abbrev pub HeldAnswered : Type 0
+  HeldAnswered = (a : Account) → AgreesWith demand a t → (b : Account) × HoldsAnswered a c (Ok (h, all)) b × AgreesWith demand b u
+
+  -- the same without the answers
+  pub held_only : HeldAnswered → Held demand t u v c h
+  held_only hold a agrees =
+      let p = hold a agrees in
+      (p.0, p.1.0, p.2)
+
+  -- after both calls the account has the row, and the answers are of all its rows
+  pub held_and_kept : HeldAnswered → Spending demand t u v c h (λ a. with_kept a h) (Ok tt) → AgreesWith demand (taking rows) t → Accepted (taking rows) c h × AgreesWith demand (taking (c ∷ rows)) v × Answered (loads (ranked (c ∷ rows))) (answers_of all)
+  held_and_kept hold keep agrees =
+      let p = hold (taking rows) agrees in
+      let q = keep p.0 p.2 in
+      let e : q.0 ≡ taking (c ∷ rows) = q.1.1 ∙ (ap (λ (a : Account). with_kept a h) p.1.0.1 ∙ kept rows c h p.1.0.0) in
+      (p.1.0.0, subst (λ (a : Account). AgreesWith demand a v) e q.2, p.1.1)
 
 -- the row that is held, with the meaning of its kind
 abbrev pub held_claim : Factor → Task (Delayed Jobs) → Claim

@@ -1,6 +1,7 @@
 // Loading a plan file.
 ghost use Rattle.std.specs.Prelude.{◌≡◌, ◌+◌, ◌<◌, ◌≤◌, true, List, [], length, IfOk, Ok, Err, MatchResult};
-ghost use Rattle.analysis.specs.Ranks.{Claim};
+ghost use Rattle.analysis.specs.Judge.{Answered, answers_of};
+ghost use Rattle.analysis.specs.Ranks.{Claim, loads, ranked};
 ghost use Rattle.table.specs.Agreement.{AgreesWith};
 ghost use Rattle.planfile.specs.Text.{ended};
 ghost use Rattle.planfile.specs.Fault.{blame, nothing, first_blame};
@@ -13,6 +14,7 @@ use super::reader::Reader;
 use super::row::{RowKind, read_clock, take_row};
 use super::writing::{write_refusal, write_report};
 use super::{Fault, LONGEST_FILE, REPORT_MEMORY};
+use analysis::Answers;
 use table::{MOST_ROWS, Table};
 
 // Checks what can be said before a line is read.
@@ -37,21 +39,23 @@ fn number_of_row(index: usize) -> u32
     index as u32 + 2
 }
 
-// Takes the rows of a file into a table, in the order of the file.
-fn take_lines(file: &[u8], table: &mut Table<RowKind>) -> Result<(), Fault>
+// Takes the rows of a file into a table, in the order of the file. The answers are those of all rows.
+fn take_lines(file: &[u8], table: &mut Table<RowKind>) -> Result<Answers, Fault>
     requires short { length file.now ≤ 4096 }
     requires ended { ended file.now ≡ true }
     requires empty { AgreesWith row_demand (taking []) table.old }
-    ensures { MatchResult result (λ _. (rows : List Claim) × LinesRead file.now (Ok rows) × AgreesWith row_demand (taking rows) table.new) (λ f. LinesRead file.now (Err (blame f))) }
+    ensures { MatchResult result (λ all. (rows : List Claim) × LinesRead file.now (Ok rows) × AgreesWith row_demand (taking rows) table.new × Answered (loads (ranked rows)) (answers_of all)) (λ f. LinesRead file.now (Err (blame f))) }
 {
     let mut reader = Reader::new(file);
     let first = reader.next().unwrap();
     let clock = read_clock(&first).map_err(|fault| Fault::Line(1, fault))?;
+    // where no row follows
+    let mut answers = table.answers().unwrap();
     for (index, line) in reader.enumerate() {
         let number = number_of_row(index);
-        take_row(&line, clock, table).map_err(|fault| Fault::Line(number, fault))?;
+        answers = take_row(&line, clock, table).map_err(|fault| Fault::Line(number, fault))?;
     }
-    Ok(())
+    Ok(answers)
 }
 
 // Reads a plan file, and writes its report at the start of the memory lent for it. The answer is the length of the report.
@@ -65,8 +69,7 @@ pub fn load(file: &[u8], report: &mut [u8]) -> Result<usize, Fault>
     check_file(file, report.len())?;
     let mut places = [None; MOST_ROWS];
     let mut table = Table::new(0, &mut places);
-    take_lines(file, &mut table)?;
-    let answers = table.answers().unwrap();
+    let answers = take_lines(file, &mut table)?;
     Ok(write_report(answers.rows(), report))
 }
 

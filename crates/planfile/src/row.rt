@@ -1,6 +1,7 @@
 // Clock lines and row lines, from fields to a clock and to rows of a table.
 ghost use Rattle.std.specs.Prelude.{◌≡◌, ◌-◌, ◌<◌, ◌≤◌, List, ◌∷◌, ◌++◌, length, MatchResult};
-ghost use Rattle.analysis.specs.Ranks.{Claim};
+ghost use Rattle.analysis.specs.Judge.{Answered, answers_of};
+ghost use Rattle.analysis.specs.Ranks.{Claim, loads, ranked};
 ghost use Rattle.table.specs.Agreement.{AgreesWith};
 ghost use Rattle.planfile.specs.Text.{field, word_of};
 ghost use Rattle.planfile.specs.Fault.{line_blame};
@@ -12,7 +13,7 @@ use super::LineFault;
 use super::number::read_number;
 use super::reader::Line;
 use super::word::{Word, read_word};
-use analysis::{Row, Task};
+use analysis::{Answers, Row, Task};
 use demand::{Delayed, Either, Every, Factor, Heavy, Left, Right, Slowed};
 use table::Table;
 
@@ -128,21 +129,21 @@ fn read_row(line: &Line) -> Result<Task<Delayed<Jobs>>, LineFault>
     Ok(Task { row, kind })
 }
 
-// Holds the row of a row line, and keeps it.
+// Holds the row of a row line, and keeps it. The answers are those of all rows in the table then.
 pub(crate) fn take_row(
     line: &Line,
     clock: Factor,
     table: &mut Table<RowKind>,
-) -> Result<(), LineFault>
+) -> Result<Answers, LineFault>
     requires { (rows : List Claim) × AgreesWith row_demand (taking rows) table.old }
-    ensures { (rows : List Claim) → AgreesWith row_demand (taking rows) table.old → MatchResult result (λ _. RowTaken clock rows line.now × AgreesWith row_demand (taking (claim_in clock line.now ∷ rows)) table.new) (λ f. RowRefused clock rows line.now (line_blame f)) }
+    ensures { (rows : List Claim) → AgreesWith row_demand (taking rows) table.old → MatchResult result (λ all. RowTaken clock rows line.now × AgreesWith row_demand (taking (claim_in clock line.now ∷ rows)) table.new × Answered (loads (ranked (claim_in clock line.now ∷ rows))) (answers_of all)) (λ f. RowRefused clock rows line.now (line_blame f)) }
 {
     let Task { row, kind } = read_row(line)?;
     let kind = Slowed {
         kind,
         factor: clock,
     };
-    let hold = table.hold(row, kind)?;
+    let (hold, answers) = table.hold_answered(row, kind)?;
     table.keep(hold).unwrap();
-    Ok(())
+    Ok(answers)
 }

@@ -96,6 +96,10 @@ module _ {K : Type 0} {demand : K → Demand} {a : Account} (t : Table K) (agree
             (subst (λ (cs : List Claim). Bounds (system (loads cs)) (length (loads (ranked (claims demand (tasks t) (Some u))))) (bounds_of (answers_of answers)) (vectors_of (answers_of answers))) (newcomer_ranked u passes) judged.answered.bounds);
       }
 
+  -- and all rows are answered, the newcomer among them
+  pub newcomer_listed : (u : Task K) → first (hold_checks a (claim_of_task u)) ≡ 0 → (answers : Answers) → Judged (claims demand (tasks t) (Some u)) (Ok answers) → Answered (loads (ranked (claim_of_task u ∷ a.rows))) (answers_of answers)
+  newcomer_listed u passes answers judged = subst (λ (cs : List Claim). Answered (loads cs) (answers_of answers)) (newcomer_ranked u passes) judged.answered
+
   -- twelve rows at most
   pub never_too_many : (u : Task K) → first (hold_checks a (claim_of_task u)) ≡ 0 → Judged (claims demand (tasks t) (Some u)) (Err TooMany) → ⊥
   never_too_many u passes judged =

@@ -5,7 +5,8 @@ use Rattle.std.specs.Prelude.{◌≡◌, ℕ, ◌<◌, Bool, true, false, cond, 
 use Rattle.demand.specs.Refusals.{first}
 use Rattle.analysis.specs.declared.judgement.JudgeRefusal.{JudgeRefusal}
 use Rattle.analysis.specs.declared.judgement.JudgeRefusal.TheVariants.{TooMany, Late as JudgedLate}
-use Rattle.analysis.specs.Judge.{LateRow}
+use Rattle.analysis.specs.declared.answers.Answers.{Answers}
+use Rattle.analysis.specs.Judge.{Answered, LateRow, answers_of}
 use Rattle.analysis.specs.Plans.{Bounds}
 use Rattle.analysis.specs.Ranks.{Claim, ranked, loads, at, system_of}
 use Rattle.table.specs.declared.Hold.{Hold}
@@ -156,6 +157,11 @@ pub record Accepted (a : Account) (c : Claim) (h : Hold) : Type 0 where
 abbrev pub Holds : Account → Claim → Result Hold HoldRefusal → Account → Type 0
 Holds a c (Ok h) b = Accepted a c h × (b ≡ with_row a c)
 Holds a c (Err e) b = Refused a c e × (b ≡ a)
+
+-- the same, where all rows are answered too, the new one among them
+abbrev pub HoldsAnswered : Account → Claim → Result (Hold × Answers) HoldRefusal → Account → Type 0
+HoldsAnswered a c (Ok p) b = Holds a c (Ok p.0) b × Answered (loads (ranked (c ∷ a.rows))) (answers_of p.1)
+HoldsAnswered a c (Err e) b = Holds a c (Err e) b
 
 -- a hold bears these two numbers
 abbrev pub bears : ℕ → ℕ → Bears → Bool

@@ -2,7 +2,7 @@
 ghost use Rattle.std.specs.Prelude.{◌≡◌, ℕ, min, length, Some, None, MatchResult};
 ghost use Rattle.demand.specs.Refusals.{first};
 ghost use Rattle.table.specs.declared.State.TheVariants.{Free, Held, Kept};
-ghost use Rattle.table.specs.Account.{Account, fresh, no_byte, row_checks, check_number, as_refusal, Holds, Spends, with_kept, with_released, Withdraws, BoundsAnswered};
+ghost use Rattle.table.specs.Account.{Account, fresh, no_byte, row_checks, check_number, as_refusal, Holds, HoldsAnswered, Spends, with_kept, with_released, Withdraws, BoundsAnswered};
 ghost use Rattle.table.specs.declared.SpendRefusal.TheVariants.{NotHeld};
 ghost use Rattle.table.specs.Agreement.{AgreesWith};
 ghost use Rattle.table.specs.Memory.{Emptied, SameTable, PutAt, ChangedAt, MarkedAt};
@@ -13,7 +13,7 @@ use super::lookup::{any_longer, find_answer};
 use super::{
     BoundRefusal, Hold, HoldRefusal, MOST_ROWS, SpendRefusal, State, Table, WithdrawRefusal,
 };
-use analysis::{JudgeRefusal, Row, Task, judge};
+use analysis::{Answers, JudgeRefusal, Row, Task, judge};
 use demand::Kind;
 
 // A judgement that goes against a newcomer.
@@ -85,20 +85,30 @@ impl<'a, K: Kind + Drop> Table<'a, K> {
         self.states[place] = state;
     }
 
+    // Takes a row, if all rows are in time with it, and answers with the hold what is answered for all rows then.
+    pub fn hold_answered(&mut self, row: Row, kind: K) -> Result<(Hold, Answers), HoldRefusal>
+        ensures account { (a : Account) → AgreesWith K.demand a self.old → (b : Account) × HoldsAnswered a (record { row = row; demand = K.demand kind }) result b × AgreesWith K.demand b self.new }
+        ensures memory { MatchResult result (λ p. ChangedAt self.old self.new Free (Held row.number) (Some (record { row = row; kind = kind }))) (λ e. SameTable self.old self.new) }
+    {
+        self.check_row(&row, &kind)?;
+        let place = self.place_in(State::Free).ok_or(HoldRefusal::NoPlace)?;
+        let newcomer = Some(Task { row, kind });
+        let answers = judge(self.used(), &newcomer)?;
+        self.put(place, newcomer, State::Held(row.number));
+        let hold = Hold {
+            table: self.number,
+            row: row.number,
+        };
+        Ok((hold, answers))
+    }
+
     // Takes a row, if all rows are in time with it.
     pub fn hold(&mut self, row: Row, kind: K) -> Result<Hold, HoldRefusal>
         ensures account { (a : Account) → AgreesWith K.demand a self.old → (b : Account) × Holds a (record { row = row; demand = K.demand kind }) result b × AgreesWith K.demand b self.new }
         ensures memory { MatchResult result (λ h. ChangedAt self.old self.new Free (Held row.number) (Some (record { row = row; kind = kind }))) (λ e. SameTable self.old self.new) }
     {
-        self.check_row(&row, &kind)?;
-        let place = self.place_in(State::Free).ok_or(HoldRefusal::NoPlace)?;
-        let newcomer = Some(Task { row, kind });
-        judge(self.used(), &newcomer)?;
-        self.put(place, newcomer, State::Held(row.number));
-        Ok(Hold {
-            table: self.number,
-            row: row.number,
-        })
+        let (hold, _) = self.hold_answered(row, kind)?;
+        Ok(hold)
     }
 
     // Spends the hold of a row that is held here: the place of the row. Any other hold comes back.
