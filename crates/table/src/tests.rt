@@ -139,6 +139,25 @@ fn a_row_that_comes_and_goes(rt: HostRuntime) -> Result<(), Fail> {
     Ok(())
 }
 
+// The answers that come with a hold are those that the table has from then on.
+#[test]
+fn answers_with_the_hold(rt: HostRuntime) -> Result<(), Fail> {
+    let mut places = [EMPTY; 2];
+    let mut table = Table::new(1, &mut places);
+    assert_eq!(rt; pass(&mut table, row(2), Table::keep), Ok(()));
+    let (state, bounds) = match table.hold_answered(row(3), KIND) {
+        Ok((hold, answers)) => {
+            let state = table.state_of(3);
+            let Hold { table: _, row: _ } = hold;
+            (state, answers.rows().iter().map(|row| row.bound).max())
+        }
+        Err(refusal) => (State::Free, Some(refusal.number())),
+    };
+    assert_eq!(rt; (state, bounds), (State::Held(3), Some(2)));
+    assert_eq!(rt; table.bound(2), Ok((2, 0)));
+    Ok(())
+}
+
 #[test]
 fn numbers_of_refusals(rt: HostRuntime) {
     let judged = HoldRefusal::from(JudgeRefusal::TooMany);
