@@ -1,13 +1,19 @@
-// Compares the planner with a brute force that is written apart from it, on sets of rows, plan files and lists of calls made at
-// random.
+// Compares the planner with a brute force that is written apart from it, on sets of rows and plan files made at random. Lists of
+// calls of a table are compared by the tests.
 #![tactic(auto)]
 
+#[cfg(test)]
 mod account;
+#[cfg(test)]
 mod bench;
+#[cfg(test)]
 mod calls;
+mod checks;
 mod damage;
+#[cfg(test)]
 mod entering;
 mod files;
+#[cfg(test)]
 mod lists;
 mod making;
 mod options;
@@ -16,26 +22,18 @@ mod random;
 mod reading;
 mod scan;
 mod sets;
+#[cfg(test)]
+mod tests;
 
 use files::compare_file;
-use lists::compare_list;
 use options::{HELP, Mode, Options, read_options};
 use random::Case;
+use reading::Check;
 use sets::compare_set;
-use std::alloc::AllocError;
 use std::collections::BTreeMap;
-use std::process::Abort;
-use table::Hold;
 
-// How many were refused by each number, and, as none, how many were not refused.
-type Counts = BTreeMap<Option<u32>, u64>;
-
-// One more that was refused by this number, or was not.
-fn count(counts: &mut Counts, refusal: Option<u32>) -> Result<(), AllocError> {
-    let count = counts.entry(refusal)?.or_insert(0);
-    *count = (*count).saturating_add(1);
-    Ok(())
-}
+// How many files each check has refused, and, as none, how many got a report.
+type Counts = BTreeMap<Option<Check>, u64>;
 
 // Tells how far a soak is, now and then.
 fn tell_progress(rt: &HostRuntime, options: &Options, done: u64, what: &str) -> anyhow::Result<()> {
@@ -60,11 +58,11 @@ fn compare_sets(rt: &HostRuntime, options: &Options) -> anyhow::Result<()> {
     Ok(())
 }
 
-// Tells the counts, that of what was not refused under the number 0.
-fn tell_counts(rt: &HostRuntime, counts: &Counts, what: &str) -> anyhow::Result<()> {
-    for (refusal, count) in counts {
-        let number = refusal.unwrap_or(0);
-        eprintln!(rt; "check {number}: {count} {what}")?;
+// Tells the counts, that of the reports under the number 0.
+fn tell_counts(rt: &HostRuntime, counts: &Counts) -> anyhow::Result<()> {
+    for (check, count) in counts {
+        let number = check.map_or(0, |check| check as u32);
+        eprintln!(rt; "check {number}: {count} files")?;
     }
     Ok(())
 }
@@ -76,10 +74,11 @@ fn compare_files(rt: &HostRuntime, options: &Options) -> anyhow::Result<()> {
     for index in 0..files {
         tell_progress(rt, options, index, "files")?;
         let check = compare_file(rt, Case { seed, index })?;
-        count(&mut counts, check.map(|check| check as u32))?;
+        let count = counts.entry(check)?.or_insert(0);
+        *count = (*count).saturating_add(1);
     }
     if options.mode == Mode::Soak {
-        tell_counts(rt, &counts, "files")?;
+        tell_counts(rt, &counts)?;
     }
     let reports = counts.get(&None).copied().unwrap_or(0);
     let refused = files.saturating_sub(reports);
@@ -87,52 +86,16 @@ fn compare_files(rt: &HostRuntime, options: &Options) -> anyhow::Result<()> {
     Ok(())
 }
 
-fn compare_calls(rt: &HostRuntime, options: &Options, holds: &mut Vec<Hold>) -> anyhow::Result<()> {
-    let seed = options.seed;
-    let lists = options.calls;
-    let mut calls: u64 = 0;
-    let mut counts: Counts = BTreeMap::new(rt.alloc());
-    for index in 0..lists {
-        tell_progress(rt, options, index, "lists of calls")?;
-        for step in &compare_list(rt, Case { seed, index }, holds)? {
-            calls = calls.saturating_add(1);
-            count(&mut counts, step.refusal())?;
-        }
-    }
-    if options.mode == Mode::Soak {
-        tell_counts(rt, &counts, "calls")?;
-    }
-    let accepted = counts.get(&None).copied().unwrap_or(0);
-    let refused = calls.saturating_sub(accepted);
-    println!(rt; "calls: {lists} lists compared, {calls} calls, {refused} refused, 0 differ")?;
-    Ok(())
-}
-
-fn run(rt: &HostRuntime, holds: &mut Vec<Hold>) -> anyhow::Result<()> {
+fn run(rt: &HostRuntime) -> anyhow::Result<()> {
     let options = read_options(rt)?;
     if options.mode == Mode::Help {
         rt.print(HELP)?;
         return Ok(());
     }
     compare_sets(rt, &options)?;
-    compare_files(rt, &options)?;
-    compare_calls(rt, &options, holds)
+    compare_files(rt, &options)
 }
 
-// A hold cannot be let go. One that is not spent, since a difference came before, ends the program.
 fn main(rt: HostRuntime) -> anyhow::Result<()> {
-    let mut holds = Vec::new(rt.alloc());
-    let done = run(&rt, &mut holds);
-    match holds.pop() {
-        None => {
-            holds.destroy_empty();
-            done
-        }
-        Some(_hold) => {
-            if let Err(error) = done {
-                let _ = eprintln!(rt; "Error: {error:?}");
-            }
-            rt.exit(1)
-        }
-    }
+    run(&rt)
 }

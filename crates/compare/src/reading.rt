@@ -1,7 +1,7 @@
 // Plan files, read the long way: split into lines and fields, checked in order, row by row.
 ghost use Rattle.std.specs.Prelude.{◌≤◌};
 
-use super::account::{check_row, find_all};
+use super::checks::{check_row, find_all};
 use super::plain::{Factor, Jobs, Layer, Nested, Plain, Suspension};
 use super::scan::Found;
 use std::alloc::{AllocError, AllocFailed, Global};
