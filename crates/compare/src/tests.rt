@@ -62,12 +62,18 @@ fn compare_lists(rt: &HostRuntime, lists: Lists, holds: &mut Vec<Hold>) -> anyho
     Ok(counts)
 }
 
-// Tells how many calls there were of each sort.
-fn tell(rt: &HostRuntime, counts: &Counts) -> anyhow::Result<()> {
+// Tells how many calls there were, and how many of each sort.
+fn tell(rt: &HostRuntime, lists: Lists, counts: &Counts) -> anyhow::Result<()> {
     for (number, count) in counts.iter().enumerate() {
         println!(rt; "check {number}: {count} calls")?;
     }
-    println!(rt; "0 differ")?;
+    let calls = counts
+        .iter()
+        .fold(0, |calls: u64, n| calls.saturating_add(*n));
+    println!(rt;
+        "calls: {} lists compared, {calls} calls, 0 differ",
+        lists.count
+    )?;
     Ok(())
 }
 
@@ -75,16 +81,17 @@ fn tell(rt: &HostRuntime, counts: &Counts) -> anyhow::Result<()> {
 #[test]
 fn lists_of_calls(rt: HostRuntime) -> Result<(), Fail> {
     let soak = soak(&rt)?;
+    let lists = soak.unwrap_or(USUAL);
     let mut holds = Vec::new(rt.alloc());
-    let compared = compare_lists(&rt, soak.unwrap_or(USUAL), &mut holds);
+    let compared = compare_lists(&rt, lists, &mut holds);
     match holds.pop() {
         None => holds.destroy_empty(),
         Some(_hold) => rt.exit(1),
     }
     let counts = compared?;
-    match soak {
-        None => assert_eq!(rt; counts, USUAL_COUNTS),
-        Some(_) => tell(&rt, &counts)?,
+    tell(&rt, lists, &counts)?;
+    if soak.is_none() {
+        assert_eq!(rt; counts, USUAL_COUNTS);
     }
     Ok(())
 }
