@@ -1,6 +1,7 @@
 // A table for a program that always spends its holds: a refusal that cannot come is ruled out.
 ghost use Rattle.std.specs.Prelude.{◌≡◌, IfErr, IfOk};
-ghost use Rattle.garage.specs.Accounted.{IsAccounted, IsHolding};
+ghost use Rattle.demand.specs.Basic.{every_demand};
+ghost use Rattle.table.specs.Accounted.{IsAccounted, IsHolding};
 
 use analysis::{Answers, Task};
 use demand::Every;
@@ -10,7 +11,7 @@ use table::{Hold, HoldRefusal, SpendRefusal, Table, WithdrawRefusal};
 #[derive(Drop)]
 pub(crate) struct Desk<'a> {
     pub(crate) table: Table<'a, Every>,
-    ghost accounted: { IsAccounted table },
+    ghost accounted: { IsAccounted every_demand table },
 }
 
 // That a hold is one of this desk's stands in the contracts, and in no struct of the two, which would be no plainer: `mix_up`
@@ -24,28 +25,28 @@ impl<'a> Desk<'a> {
 
     // Holds a row.
     pub(crate) fn take_in(&mut self, task: Task<Every>) -> Result<Hold, HoldRefusal>
-        ensures { IfOk result (λ h. IsHolding self.new.table h) }
+        ensures { IfOk result (λ h. IsHolding every_demand self.new.table h) }
     {
         self.table.hold(task.row, task.kind)
     }
 
     // Keeps the row of a hold. As `give_up`, a line: one function for both would be passed the call.
     pub(crate) fn keep(&mut self, hold: Hold)
-        requires { IsHolding self.old.table hold }
+        requires { IsHolding every_demand self.old.table hold }
     {
         self.table.keep(hold).unwrap();
     }
 
     // Gives the row of a hold up.
     pub(crate) fn give_up(&mut self, hold: Hold)
-        requires { IsHolding self.old.table hold }
+        requires { IsHolding every_demand self.old.table hold }
     {
         self.table.release(hold).unwrap();
     }
 
     // Takes a kept row out. A hold that is open stays open.
     pub(crate) fn leave(&mut self, number: u32) -> Result<(), WithdrawRefusal>
-        ensures { (h : Hold) → IsHolding self.old.table h → IsHolding self.new.table h }
+        ensures { (h : Hold) → IsHolding every_demand self.old.table h → IsHolding every_demand self.new.table h }
     {
         self.table.withdraw(number)
     }

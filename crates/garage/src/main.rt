@@ -5,7 +5,8 @@ mod desk;
 mod rows;
 mod tell;
 
-ghost use Rattle.garage.specs.Accounted.{IsHolding};
+ghost use Rattle.demand.specs.Basic.{every_demand};
+ghost use Rattle.table.specs.Accounted.{IsHolding};
 
 use analysis::Task;
 use demand::Every;
@@ -25,7 +26,7 @@ fn start<'a, F>(
 ) -> io::Result<()>
 where
     F: FnOnce(&mut Desk<'a>, Hold),
-    requires { (d : _) (h : _) → IsHolding d.now.table h → F.pre spend d h }
+    requires { (d : _) (h : _) → IsHolding every_demand d.now.table h → F.pre spend d h }
 {
     let number = task.row.number;
     match desk.take_in(task) {
@@ -64,7 +65,7 @@ fn depart_early(rt: &HostRuntime, desk: &mut Desk<'_>, task: Task<Every>) -> io:
 
 // A hold of another table is handed to this one, which hands it back, and is released where it came from.
 fn mix_up(rt: &HostRuntime, desk: &mut Desk<'_>, other: &mut Desk<'_>, hold: Hold) -> io::Result<()>
-    requires { IsHolding other.old.table hold }
+    requires { IsHolding every_demand other.old.table hold }
 {
     let from = hold.table();
     let row = hold.row();

@@ -12,4 +12,5 @@ pub mod Holding
 pub mod Worked
 pub mod AfterRun
 pub mod Given
+pub mod InHand
 pub mod Emptying

@@ -6,7 +6,7 @@ use Rattle.demand.specs.Demand.{Lawful}
 use Rattle.analysis.specs.Ranks.{Claim, NoneAt, DistinctPriorities}
 use Rattle.analysis.specs.Removal.{SomeOf, none, keep, leave}
 use Rattle.analysis.proofs.Lawful.{AllLawful}
-use Rattle.table.specs.Account.{Bears, number_of, has_number, has_priority, unspent, held, spent, without}
+use Rattle.table.specs.Account.{Bears, bears, number_of, has_number, has_priority, unspent, held, spent, without}
 use Rattle.table.specs.Agreement.{NoneNamed, DistinctNumbers, LawfulRows, OwnHolds}
 use Rattle.table.specs.Runs.{Among}
 
@@ -61,10 +61,14 @@ has_still : (m n : ℕ) → m ≢ n → (cs : List Claim) → has_number m (with
 has_still m n ne [] = refl
 has_still m n ne (c ∷ cs) = grind (arith, nat_tests, has_still m n ne cs)
 
--- the holds of other rows are as before, once a hold is spent
+-- a hold of other numbers is as before, once a hold is spent
+pub other_stays : (table n : ℕ) (x : Bears) (hs : List Bears) → bears table n x ≡ false → unspent x.table x.row (spent table n hs) ≡ unspent x.table x.row hs
+other_stays table n x [] e = refl
+other_stays table n x (h ∷ hs) e = grind (arith, nat_tests, other_stays table n x hs e)
+
+-- so it is of another row
 pub others_stay : (table n other m : ℕ) (hs : List Bears) → m ≢ n → unspent other m (spent table n hs) ≡ unspent other m hs
-others_stay table n other m [] ne = refl
-others_stay table n other m (h ∷ hs) ne = grind (arith, nat_tests, others_stay table n other m hs ne)
+others_stay table n other m hs ne = other_stays table n (record { table = other; row = m }) hs (grind (arith, nat_tests))
 
 module _ (table : ℕ) (cs : List Claim) where
   pub own_more : (c : Claim) (hs : List Bears) → OwnHolds table cs hs → OwnHolds table (c ∷ cs) hs
@@ -89,6 +93,11 @@ module _ (table : ℕ) (cs : List Claim) where
   pub unspent_own : (t n : ℕ) (hs : List Bears) → OwnHolds table cs hs → unspent t n hs ≡ true → t ≡ table
   unspent_own t n [] o e = cc
   unspent_own t n (h ∷ hs) o e = grind (arith, nat_tests, unspent_own t n hs o.1)
+
+  -- and its row is among the rows
+  pub unspent_row : (t n : ℕ) (hs : List Bears) → OwnHolds table cs hs → unspent t n hs ≡ true → has_number n cs ≡ true
+  unspent_row t n [] o e = cc
+  unspent_row t n (h ∷ hs) o e = grind (arith, nat_tests, unspent_row t n hs o.1)
 
 -- a row that is left was there, and has another number
 pub was_there : (c : Claim) (n : ℕ) (cs : List Claim) → Among c (without n cs) → Among c cs × (number_of c ≢ n)

@@ -18,18 +18,13 @@ use Rattle.table.specs.Account.{Account, Bears, has_number, unspent, held, spent
 use Rattle.table.specs.Agreement.{AgreesWith, StandsAt, StateOf, OwnHolds}
 use Rattle.table.specs.Places.{names, At, HeldHere}
 use Rattle.table.proofs.Lookups.{tasks, task_at, state_at, AtLow, named, named_more, number_found}
-use Rattle.table.proofs.Parts.{unspent_own}
+use Rattle.table.proofs.Parts.{unspent_own, unspent_row}
 use Rattle.table.proofs.Shared.{number_reordered}
 
 -- all holds are of one table, so its number need not be looked at
 same_held : (table n : ℕ) (cs : List Claim) (hs : List Bears) → OwnHolds table cs hs → held n hs ≡ unspent table n hs
 same_held table n cs [] own = refl
 same_held table n cs (h ∷ hs) own = grind (arith, nat_tests, same_held table n cs hs own.1)
-
--- a hold's row is among the rows
-row_of_held : (table n : ℕ) (cs : List Claim) (hs : List Bears) → OwnHolds table cs hs → held n hs ≡ true → has_number n cs ≡ true
-row_of_held table n cs [] own e = cc
-row_of_held table n cs (h ∷ hs) own e = grind (arith, nat_tests, row_of_held table n cs hs own.1)
 
 -- after a hold is spent none bears its numbers
 pub spent_gone : (table n : ℕ) (hs : List Bears) → unspent table n (spent table n hs) ≡ false
@@ -103,7 +98,7 @@ module _ {K : Type 0} {demand : K → Demand} {a : Account} (t : Table K) (agree
   no_row n none =
       let absent : false ≡ has_number n a.rows = number_found t agrees n None none in
       false_from_ne_true (unspent t.number n a.holds)
-      (λ e. both_ways (has_number n a.rows) (sym absent) (row_of_held a.number n a.rows a.holds agrees.sound.holds (same_held a.number n a.rows a.holds agrees.sound.holds ∙ rw agrees.number_is e)))
+      (λ e. both_ways (has_number n a.rows) (sym absent) (unspent_row a.number a.rows a.number n a.holds agrees.sound.holds (rw agrees.number_is e)))
 
   pub not_unspent : (h : Hold) → ((p : ℕ) → HeldHere t h p → ⊥) → unspent h.table h.row a.holds ≡ false
   not_unspent h away = false_from_ne_true (unspent h.table h.row a.holds) (λ e. both_ways (has_number h.row (claims_of demand (tasks t))) (gone e) (there e))
@@ -114,7 +109,7 @@ module _ {K : Type 0} {demand : K → Demand} {a : Account} (t : Table K) (agree
       there : unspent h.table h.row a.holds ≡ true → has_number h.row (claims_of demand (tasks t)) ≡ true
       there e =
           number_reordered h.row agrees.rows_are
-          ∙ row_of_held a.number h.row a.rows a.holds agrees.sound.holds (same_held a.number h.row a.rows a.holds agrees.sound.holds ∙ by_row e)
+          ∙ unspent_row a.number a.rows a.number h.row a.holds agrees.sound.holds (by_row e)
 
       gone : unspent h.table h.row a.holds ≡ true → has_number h.row (claims_of demand (tasks t)) ≡ false
       gone e =

@@ -1,6 +1,6 @@
 -- The account of holds: what a table answers, by the arguments of its calls alone. Assumes nothing.
 -- How to read it: a is the account before a call, b the one after it, c a row with the meaning of its kind, h a hold, n the number of a row. The
--- calls are `Holds`, `Spends` (keep and release), `Withdraws` and `BoundsAnswered`; each says which answers the account allows.
+-- calls are `Holds`, `HoldsAnswered`, `Spends` (keep and release), `Withdraws` and `BoundsAnswered`; each says which answers the account allows.
 use Rattle.std.specs.Prelude.{◌≡◌, ℕ, ◌<◌, Bool, true, false, cond, not, ◌&&◌, ◌||◌, List, [], ◌∷◌, ◌++◌, length, Ok, Err, Result, ◌==◌, nat_le, nat_lt}
 use Rattle.demand.specs.Refusals.{first}
 use Rattle.analysis.specs.declared.judgement.JudgeRefusal.{JudgeRefusal}

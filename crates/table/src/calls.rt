@@ -135,6 +135,16 @@ impl<'a, K: Kind + Drop> Table<'a, K> {
         Ok(())
     }
 
+    // Spends a hold, and takes its row out.
+    pub fn release(&mut self, hold: Hold) -> Result<(), SpendRefusal>
+        ensures account { (a : Account) → AgreesWith K.demand a self.old → (b : Account) × Spends a hold (with_released a hold) result b × AgreesWith K.demand b self.new }
+        ensures memory { MatchResult result (λ _. ChangedAt self.old self.new (Held hold.row) Free None) (λ e. SameTable self.old self.new) }
+    {
+        let place = self.spend(hold)?;
+        self.put(place, None, State::Free);
+        Ok(())
+    }
+
     // Takes a kept row out.
     pub fn withdraw(&mut self, number: u32) -> Result<(), WithdrawRefusal>
         ensures account { (a : Account) → AgreesWith K.demand a self.old → (b : Account) × Withdraws a number result b × AgreesWith K.demand b self.new }
@@ -155,15 +165,5 @@ impl<'a, K: Kind + Drop> Table<'a, K> {
         // never an error where some account agrees with the table, and only there can that be proved
         let answers = self.answers().map_err(|_| BoundRefusal::NoSuchRow)?;
         find_answer(answers.rows(), number).ok_or(BoundRefusal::NoSuchRow)
-    }
-
-    // Spends a hold, and takes its row out.
-    pub fn release(&mut self, hold: Hold) -> Result<(), SpendRefusal>
-        ensures account { (a : Account) → AgreesWith K.demand a self.old → (b : Account) × Spends a hold (with_released a hold) result b × AgreesWith K.demand b self.new }
-        ensures memory { MatchResult result (λ _. ChangedAt self.old self.new (Held hold.row) Free None) (λ e. SameTable self.old self.new) }
-    {
-        let place = self.spend(hold)?;
-        self.put(place, None, State::Free);
-        Ok(())
     }
 }

@@ -49,7 +49,7 @@ impl<'a, K: Kind + Drop> Table<'a, K> {
         &self.states[..self.used().len()]
     }
 
-    // The first place that names this number.
+    // A place that names this number.
     pub(crate) fn place_of(&self, number: u32) -> Option<usize>
         ensures { PlaceWhere self.now (λ s. names s number ≡ true) result }
     {
@@ -58,7 +58,7 @@ impl<'a, K: Kind + Drop> Table<'a, K> {
             .position(|state| state.names(number))
     }
 
-    // The first place that is in this state.
+    // A place that is in this state.
     pub(crate) fn place_in(&self, state: State) -> Option<usize>
         ensures { PlaceWhere self.now (λ s. s ≡ state) result }
     {

@@ -1,0 +1,125 @@
+-- A hold in hand is spent without refusal, and stays one while other holds come and go. Some account agrees after each call. Assumes nothing.
+use Rattle.std.proofs.Common.{◌≡◌, ◌≢◌, ℕ, true, false, eqb, List, [], ◌∷◌, IfErr, IfOk, IsOk, Ok, Err, Result, ap, ◌∙◌, refl, arith}
+use Rattle.std.proofs.Math.Logic.{∥∥₁_elim, ∥∥₁_map}
+use Rattle.std.proofs.lemmas.Bool.Decides.{nat_tests}
+use Rattle.std.proofs.lemmas.Bool.{and_parts, eqb-true, false_from_ne_true, or_right}
+use Rattle.std.specs.Coded.{Coded-set, coded_bool, coded_ℕ}
+use Rattle.analysis.specs.Ranks.{Claim}
+use Rattle.demand.specs.Demand.{Demand}
+use Rattle.table.specs.declared.Hold.{Hold}
+use Rattle.table.specs.declared.HoldRefusal.{HoldRefusal}
+use Rattle.table.specs.declared.SpendRefusal.{SpendRefusal}
+use Rattle.table.specs.declared.SpendRefusal.TheVariants.{NotHeld}
+use Rattle.table.specs.declared.Table.{Table}
+use Rattle.table.specs.declared.WithdrawRefusal.{WithdrawRefusal}
+use Rattle.table.specs.declared.WithdrawRefusal.TheVariants.{NoSuchRow, NotKept}
+use Rattle.table.specs.Account.{Account, Bears, Holds, Spends, Withdraws, bears, has_number, number_of, spent, unspent}
+use Rattle.table.specs.Agreement.{AgreesWith, NoneNamed}
+use Rattle.table.specs.Accounted.{IsAccounted, IsHolding}
+use Rattle.table.proofs.Given.{clash, given}
+use Rattle.table.proofs.Parts.{other_stays, unspent_own, unspent_row}
+use Rattle.table.proofs.Shared.{passed}
+
+abbrev hold_of : ℕ → ℕ → Hold
+hold_of table row = record { table = table; row = row }
+
+abbrev bears_of : Hold → Bears
+bears_of h = record { table = h.table; row = h.row }
+
+same_numbers : (g h : Hold) → g.table ≡ h.table → g.row ≡ h.row → g ≡ h
+same_numbers g h table row = ap (λ n. hold_of n g.row) table ∙ ap (hold_of h.table) row
+
+-- another hold has other numbers
+other_numbers : (g h : Hold) → g ≢ h → bears h.table h.row (bears_of g) ≡ false
+other_numbers g h other = false_from_ne_true (bears h.table h.row (bears_of g)) (λ e.
+    let p = and_parts (eqb g.table h.table) (eqb g.row h.row) e in
+    other (same_numbers g h (eqb-true g.table h.table p.0) (eqb-true g.row h.row p.1)))
+
+none_has : (n : ℕ) (cs : List Claim) → NoneNamed n cs → has_number n cs ≡ true → ⊥
+none_has n [] none e = cc
+none_has n (c ∷ cs) none e = grind (arith, nat_tests, none_has n cs none.1)
+
+same_holds : (a b : Account) (n : ℕ) (r : Result (Unit {0}) WithdrawRefusal) → Withdraws a n r b → b.holds ≡ a.holds
+same_holds a b n (Ok u) w = ap (λ (x : Account). x.holds) w.2
+same_holds a b n (Err NoSuchRow) w = ap (λ (x : Account). x.holds) w.1
+same_holds a b n (Err NotKept) w = ap (λ (x : Account). x.holds) w.2
+
+-- a call that makes the table t the table u
+module _ {K : Type 0} (demand : K → Demand) (t u : Table K) where
+  -- it turns each account of t into one of u, by the relation R
+  abbrev Turns : (Account → Account → Type 0) → Type 0
+  Turns R = (a : Account) → AgreesWith demand a t → (b : Account) × R a b × AgreesWith demand b u
+
+  pub still_accounted : (R : Account → Account → Type 0) → Turns R → IsAccounted demand t → IsAccounted demand u
+  still_accounted R f known = ∥∥₁_map known (λ k.
+      let p = f k.account k.agrees in
+      record { account = p.0; agrees = p.2 })
+
+  -- a hold stays in hand where each account has it unspent still
+  still_in_hand : (R : Account → Account → Type 0) → Turns R → (g : Hold) → ((a b : Account) → R a b → unspent g.table g.row a.holds ≡ true → unspent g.table g.row b.holds ≡ true) → IsHolding demand t g → IsHolding demand u g
+  still_in_hand R f g stays known = ∥∥₁_map known (λ k.
+      let p = f k.account k.agrees in
+      record { account = p.0; agrees = p.2; unspent_yet = stays k.account p.0 p.1 k.unspent_yet })
+
+  module _ (c : Claim) where
+    pub taken : (r : Result Hold HoldRefusal) → Turns (λ a b. Holds a c r b) → IsAccounted demand t → IfOk r (λ h. IsHolding demand u h)
+    taken (Ok h) f known = ∥∥₁_map known (λ k.
+        let p = f k.account k.agrees in
+        record {
+          account = p.0;
+          agrees = p.2;
+          unspent_yet = ap (λ (x : Account). unspent h.table h.row x.holds) p.1.1 ∙ given k.account c h p.1.0;
+        })
+    taken (Err e) f known = tt
+
+    -- the holds that were in hand are so still
+    pub beside_taken : (r : Result Hold HoldRefusal) → Turns (λ a b. Holds a c r b) → (g : Hold) → IsHolding demand t g → IsHolding demand u g
+    beside_taken (Ok h) f g = still_in_hand (λ a b. Holds a c (Ok h) b) f g (λ a b s e.
+        ap (λ (x : Account). unspent g.table g.row x.holds) s.1
+        ∙ or_right (bears g.table g.row (record { table = a.number; row = number_of c })) (unspent g.table g.row a.holds) e)
+    beside_taken (Err e) f g = still_in_hand (λ a b. Holds a c (Err e) b) f g (λ a b s e. ap (λ (x : Account). unspent g.table g.row x.holds) s.1 ∙ e)
+
+    -- and are not the new one, whose row is new
+    pub new_taken : (r : Result Hold HoldRefusal) → Turns (λ a b. Holds a c r b) → IfOk r (λ h. (g : Hold) → IsHolding demand t g → g ≢ h)
+    new_taken (Ok h) f = λ g known same.
+        ∥∥₁_elim known (λ x y. absurd x) (λ k.
+        let accepted = (f k.account k.agrees).1.0 in
+        let there : has_number g.row k.account.rows ≡ true = unspent_row k.account.number k.account.rows g.table g.row k.account.holds k.agrees.sound.holds k.unspent_yet in
+        let is : g.row ≡ number_of c = ap (λ (x : Hold). x.row) same ∙ accepted.row in
+        none_has (number_of c) k.account.rows (passed k.account c accepted.passes).number (rw (← is) there))
+    new_taken (Err e) f = tt
+
+  -- a call of keep or release, where `after` is the account with the hold spent
+  module _ (h : Hold) (after : Account → Account) where
+    -- a hold in hand is not refused
+    pub not_refused : (r : Result (Unit {0}) SpendRefusal) → Turns (λ a b. Spends a h (after a) r b) → IsHolding demand t h → IsOk r
+    not_refused (Ok x) f known = refl
+    not_refused (Err (NotHeld back)) f known =
+        ∥∥₁_elim known (Coded-set coded_bool _ _) (λ k. absurd (clash _ k.unspent_yet (f k.account k.agrees).1.0))
+
+    -- what a refusal hands back is the hold that was passed
+    pub same_hold : (r : Result (Unit {0}) SpendRefusal) → Turns (λ a b. Spends a h (after a) r b) → IsAccounted demand t → IfErr r (λ e. e ≡ NotHeld h)
+    same_hold (Ok x) f known = tt
+    same_hold (Err (NotHeld back)) f known =
+        ap NotHeld (
+        same_numbers back h
+        (∥∥₁_elim known (Coded-set coded_ℕ _ _) (λ k. ap (λ (x : Hold). x.table) (f k.account k.agrees).1.1))
+        (∥∥₁_elim known (Coded-set coded_ℕ _ _) (λ k. ap (λ (x : Hold). x.row) (f k.account k.agrees).1.1)))
+
+    -- every other hold stays in hand
+    pub beside_spent : ((a : Account) → (after a).holds ≡ spent h.table h.row a.holds) → (r : Result (Unit {0}) SpendRefusal) → Turns (λ a b. Spends a h (after a) r b) → (g : Hold) → g ≢ h → IsHolding demand t g → IsHolding demand u g
+    beside_spent spends (Ok x) f g other = still_in_hand (λ a b. Spends a h (after a) (Ok x) b) f g (λ a b s e.
+        ap (λ (x : Account). unspent g.table g.row x.holds) s.1
+        ∙ ap (unspent g.table g.row) (spends a)
+        ∙ other_stays h.table h.row (bears_of g) a.holds (other_numbers g h other)
+        ∙ e)
+    beside_spent spends (Err (NotHeld back)) f g other = still_in_hand (λ a b. Spends a h (after a) (Err (NotHeld back)) b) f g (λ a b s e. ap (λ (x : Account). unspent g.table g.row x.holds) s.2 ∙ e)
+
+  -- a hold stays in hand when a row leaves
+  pub beside_withdrawn : (n : ℕ) (r : Result (Unit {0}) WithdrawRefusal) → Turns (λ a b. Withdraws a n r b) → (g : Hold) → IsHolding demand t g → IsHolding demand u g
+  beside_withdrawn n r f g = still_in_hand (λ a b. Withdraws a n r b) f g (λ a b s e. ap (unspent g.table g.row) (same_holds a b n r s) ∙ e)
+
+-- a hold in hand bears the table's number
+pub own_number : {K : Type 0} {demand : K → Demand} {t : Table K} (h : Hold) → IsHolding demand t h → h.table ≡ t.number
+own_number h known =
+    ∥∥₁_elim known (Coded-set coded_ℕ _ _) (λ k. unspent_own k.account.number k.account.rows h.table h.row k.account.holds k.agrees.sound.holds k.unspent_yet ∙ k.agrees.number_is)
