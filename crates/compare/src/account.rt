@@ -3,6 +3,7 @@ use super::checks::{check_row, find_all};
 use super::plain::Plain;
 use super::scan::Found;
 use std::alloc::{AllocError, Global};
+use std::fmt;
 
 // The two numbers that a hold bears.
 #[derive(Clone, Copy, PartialEq, Eq, Debug)]
@@ -17,6 +18,13 @@ pub(crate) enum Standing {
     Free,
     Held(u32),
     Kept(u32),
+}
+
+// What is done with a hold.
+#[derive(Clone, Copy, PartialEq, Eq, Debug)]
+pub(crate) enum Way {
+    Keep,
+    Release,
 }
 
 // What a call is answered.
@@ -57,6 +65,12 @@ impl Reply {
     }
 }
 
+impl fmt::Display for Account {
+    fn fmt<W: fmt::Write>(&self, f: &mut fmt::Formatter<W>) -> fmt::Result {
+        write!(f, "number {}, room for {} rows", self.number, self.room)
+    }
+}
+
 impl Account {
     // The account of a new table whose row memory has so many places.
     pub(crate) fn new(heap: Global, number: u8, places: usize) -> Account {
@@ -67,10 +81,6 @@ impl Account {
             found: Vec::new(heap),
             unspent: Vec::new(heap),
         }
-    }
-
-    pub(crate) fn number(&self) -> u8 {
-        self.number
     }
 
     // How many more rows can enter.
@@ -113,13 +123,6 @@ impl Account {
         Ok(())
     }
 
-    // Spends a hold, if one with its numbers is unspent.
-    fn spend(&mut self, hold: Bears) -> bool {
-        let count = self.unspent.len();
-        self.unspent.retain(|other| *other != hold);
-        self.unspent.len() < count
-    }
-
     pub(crate) fn hold(&mut self, heap: Global, row: &Plain) -> Result<Reply, AllocError> {
         if let Err(check) = check_row(self.rows.as_slice(), self.room, row) {
             return Ok(Reply::Refused(check as u32));
@@ -140,19 +143,21 @@ impl Account {
         Ok(Reply::Taken(hold))
     }
 
-    pub(crate) fn keep(&mut self, hold: Bears) -> Reply {
-        if self.spend(hold) {
-            Reply::Done
-        } else {
-            Reply::HandedBack(hold)
-        }
-    }
-
-    pub(crate) fn release(&mut self, heap: Global, hold: Bears) -> Result<Reply, AllocError> {
-        if !self.spend(hold) {
+    // Spends a hold, if one with its numbers is unspent.
+    pub(crate) fn spend(
+        &mut self,
+        heap: Global,
+        way: Way,
+        hold: Bears,
+    ) -> Result<Reply, AllocError> {
+        let count = self.unspent.len();
+        self.unspent.retain(|other| *other != hold);
+        if self.unspent.len() == count {
             return Ok(Reply::HandedBack(hold));
         }
-        self.leave(heap, hold.row)?;
+        if way == Way::Release {
+            self.leave(heap, hold.row)?;
+        }
         Ok(Reply::Done)
     }
 

@@ -1,15 +1,11 @@
 // Two tables side by side, and calls of them.
-ghost use Rattle.std.specs.Prelude.{◌<◌};
-ghost use Rattle.std.specs.Vec.{vec_len};
-
-use super::account::{Account, Bears};
-use super::calls::{Halt, Replies, Watched, Way, agree};
+use super::account::{Account, Bears, Way};
+use super::calls::{Halt, Replies, Watched, agree};
 use super::entering::{LAST_NUMBER, Weight, entering_row};
 use super::plain::Plain;
 use super::random::Random;
 use std::alloc::{AllocError, Global};
 use std::fmt;
-use table::Hold;
 
 // The first or the second of the two tables.
 #[derive(Clone, Copy, PartialEq, Eq, Debug)]
@@ -36,7 +32,6 @@ pub(crate) struct Step {
 }
 
 // The two tables, and how much time the rows take that ask to enter.
-#[derive(Drop)]
 pub(crate) struct Bench<'a> {
     first: Watched<'a>,
     second: Watched<'a>,
@@ -79,6 +74,37 @@ fn some_number(random: &mut Random, account: &Account) -> u32 {
     }
 }
 
+// Spends a hold of the one table, if there is one, with that table or with the other one. Tables of the same number cannot tell
+// their holds apart.
+fn spend_from(
+    heap: Global,
+    random: &mut Random,
+    side: Side,
+    strays: bool,
+    from: &mut Watched<'_>,
+    to: &mut Watched<'_>,
+) -> Result<Option<Step>, AllocError> {
+    let Some(place) = random.place(from.desk.count()) else {
+        return Ok(None);
+    };
+    let way = random.choice(&[Way::Keep, Way::Release]);
+    let call = Call::Spend(way, from.desk.bears(place));
+    let step = if strays && from.desk.number() != to.desk.number() {
+        Step {
+            side: side.other(),
+            call,
+            replies: from.hand_to(to, heap, way, place)?,
+        }
+    } else {
+        Step {
+            side,
+            call,
+            replies: from.spend(heap, way, place)?,
+        }
+    };
+    Ok(Some(step))
+}
+
 impl<'a> Bench<'a> {
     pub(crate) fn new(first: Watched<'a>, second: Watched<'a>, weight: Weight) -> Bench<'a> {
         Bench {
@@ -95,13 +121,19 @@ impl<'a> Bench<'a> {
         }
     }
 
-    // The table that gave a hold.
-    fn origin(&self, hold: Bears) -> Side {
-        if hold.table == self.first.account.number() {
-            Side::First
-        } else {
-            Side::Second
-        }
+    // What is told of both tables.
+    pub(crate) fn accounts(&self) -> [&Account; 2] {
+        [&self.first.account, &self.second.account]
+    }
+
+    // The accounts, where the tables are no longer needed.
+    pub(crate) fn close(self) -> [Account; 2] {
+        let Bench {
+            first,
+            second,
+            weight: _,
+        } = self;
+        [first.close(), second.close()]
     }
 
     // Whether both tables and their accounts agree.
@@ -110,15 +142,9 @@ impl<'a> Bench<'a> {
         self.second.agrees(heap)
     }
 
-    fn hold(
-        &mut self,
-        heap: Global,
-        random: &mut Random,
-        holds: &mut Vec<Hold>,
-        side: Side,
-    ) -> Result<Step, AllocError> {
+    fn hold(&mut self, heap: Global, random: &mut Random, side: Side) -> Result<Step, AllocError> {
         let row = entering_row(random, self.weight);
-        let replies = self.at(side).hold(heap, &row, holds)?;
+        let replies = self.at(side).hold(heap, &row)?;
         Ok(Step {
             side,
             call: Call::Hold(row),
@@ -126,27 +152,20 @@ impl<'a> Bench<'a> {
         })
     }
 
-    // Spends the hold at a place, with the table that gave it or with the other one.
+    // Spends a hold of a table, if there is one.
     fn spend(
         &mut self,
         heap: Global,
         random: &mut Random,
-        holds: &mut Vec<Hold>,
-        place: usize,
+        side: Side,
         strays: bool,
-    ) -> Result<Step, AllocError>
-        requires { place < vec_len holds.old }
-    {
-        let way = random.choice(&[Way::Keep, Way::Release]);
-        let hold = Bears::from(&holds[place]);
-        let origin = self.origin(hold);
-        let side = if strays { origin.other() } else { origin };
-        let replies = self.at(side).spend(heap, way, holds, place)?;
-        Ok(Step {
-            side,
-            call: Call::Spend(way, hold),
-            replies,
-        })
+    ) -> Result<Option<Step>, AllocError> {
+        let first = &mut self.first;
+        let second = &mut self.second;
+        match side {
+            Side::First => spend_from(heap, random, side, strays, first, second),
+            Side::Second => spend_from(heap, random, side, strays, second, first),
+        }
     }
 
     fn withdraw(
@@ -176,12 +195,7 @@ impl<'a> Bench<'a> {
     }
 
     // Makes any call.
-    fn some_call(
-        &mut self,
-        heap: Global,
-        random: &mut Random,
-        holds: &mut Vec<Hold>,
-    ) -> Result<Step, AllocError> {
+    fn some_call(&mut self, heap: Global, random: &mut Random) -> Result<Step, AllocError> {
         let side = if random.one_in(4) {
             Side::Second
         } else {
@@ -196,11 +210,11 @@ impl<'a> Bench<'a> {
         match random.below(turns) {
             0 | 1 => self.withdraw(heap, random, side),
             2 => Ok(self.bound(random, side)),
-            3..=5 => match random.place(holds.len()) {
-                Some(place) => self.spend(heap, random, holds, place, strays),
-                None => self.hold(heap, random, holds, side),
+            3..=5 => match self.spend(heap, random, side, strays)? {
+                Some(step) => Ok(step),
+                None => self.hold(heap, random, side),
             },
-            _ => self.hold(heap, random, holds, side),
+            _ => self.hold(heap, random, side),
         }
     }
 
@@ -211,33 +225,38 @@ impl<'a> Bench<'a> {
         self.agrees(heap)
     }
 
-    // Makes some calls, and then spends each hold that is left where it came from. The answer is the accounts.
-    pub(crate) fn play(
-        mut self,
+    // Spends each hold of a table with that table.
+    fn spend_rest(
+        &mut self,
         heap: Global,
         random: &mut Random,
-        holds: &mut Vec<Hold>,
         steps: &mut Vec<Step>,
-    ) -> Result<(Account, Account), Halt> {
+        side: Side,
+    ) -> Result<(), Halt> {
+        for _ in 0..self.at(side).desk.count() {
+            if let Some(step) = self.spend(heap, random, side, false)? {
+                self.note(heap, steps, step)?;
+            }
+        }
+        Ok(())
+    }
+
+    // Makes some calls, and then spends each hold that is left where it came from.
+    pub(crate) fn play(
+        &mut self,
+        heap: Global,
+        random: &mut Random,
+        steps: &mut Vec<Step>,
+    ) -> Result<(), Halt> {
         let calls = match self.weight {
             Weight::Light => random.within(40, 60),
             Weight::Usual => random.within(4, 16),
         };
         for _ in 0..calls {
-            let step = self.some_call(heap, random, holds)?;
+            let step = self.some_call(heap, random)?;
             self.note(heap, steps, step)?;
         }
-        for _ in 0..holds.len() {
-            if let Some(last) = holds.len().checked_sub(1) {
-                let step = self.spend(heap, random, holds, last, false)?;
-                self.note(heap, steps, step)?;
-            }
-        }
-        let Bench {
-            first,
-            second,
-            weight: _,
-        } = self;
-        Ok((first.into_account(), second.into_account()))
+        self.spend_rest(heap, random, steps, Side::First)?;
+        self.spend_rest(heap, random, steps, Side::Second)
     }
 }

@@ -1,26 +1,17 @@
 // Calls of a table: what it answers, against its account.
-ghost use Rattle.std.specs.Prelude.{◌<◌};
+ghost use Rattle.std.specs.Prelude.{◌≢◌, ◌<◌};
 ghost use Rattle.std.specs.Vec.{vec_len};
 
-use super::account::{Account, Bears, Reply, Standing};
+use super::account::{Account, Bears, Reply, Standing, Way};
+use super::desk::{Desk, Place};
 use super::entering::LAST_NUMBER;
 use super::plain::Plain;
 use super::scan::Found;
-use super::sets::{TwoLayers, Verdict};
+use super::sets::Verdict;
 use analysis::{JudgeRefusal, Task};
 use std::alloc::{AllocError, AllocFailed, Global};
 use std::fmt::Debug;
-use table::{BoundRefusal, Hold, HoldRefusal, SpendRefusal, State, Table, WithdrawRefusal};
-
-// The row memory of a table.
-pub(crate) type Place = Option<Task<TwoLayers>>;
-
-// What is done with a hold.
-#[derive(Clone, Copy, PartialEq, Eq, Debug)]
-pub(crate) enum Way {
-    Keep,
-    Release,
-}
+use table::{BoundRefusal, Hold, HoldRefusal, State, WithdrawRefusal};
 
 // What a table and its account answer a call.
 #[derive(Clone, Copy)]
@@ -45,10 +36,9 @@ struct View {
     rows: Verdict,
 }
 
-// A table with the account of it.
-#[derive(Drop)]
+// A table, with its holds, and the account of it.
 pub(crate) struct Watched<'a> {
-    table: Table<'a, TwoLayers>,
+    pub(crate) desk: Desk<'a>,
     pub(crate) account: Account,
 }
 
@@ -135,83 +125,71 @@ fn standings<F: Fn(u32) -> Standing>(heap: Global, say: F) -> Result<Vec<Standin
 impl<'a> Watched<'a> {
     pub(crate) fn new(heap: Global, number: u8, memory: &'a mut [Place]) -> Watched<'a> {
         let account = Account::new(heap, number, memory.len());
-        let table = Table::new(number, memory);
-        Watched { table, account }
+        let desk = Desk::new(heap, number, memory);
+        Watched { desk, account }
     }
 
     // The account, where the table is no longer needed.
-    pub(crate) fn into_account(self) -> Account {
-        let Watched { table: _, account } = self;
+    pub(crate) fn close(self) -> Account {
+        let Watched { desk, account } = self;
+        desk.close();
         account
     }
 
-    // A row asks to enter. What holds it, if it does, comes to the holds.
-    pub(crate) fn hold(
-        &mut self,
-        heap: Global,
-        plain: &Plain,
-        holds: &mut Vec<Hold>,
-    ) -> Result<Replies, AllocError> {
-        holds.reserve(1)?;
+    // A row asks to enter.
+    pub(crate) fn hold(&mut self, heap: Global, plain: &Plain) -> Result<Replies, AllocError> {
         let account = self.account.hold(heap, plain)?;
-        let Task { row, kind } = Task::from(plain);
-        let table = match self.table.hold(row, kind) {
-            Ok(hold) => {
-                let reply = Reply::Taken(Bears::from(&hold));
-                holds.push_reserved(hold);
-                reply
-            }
-            Err(refusal) => Reply::from(refusal),
-        };
+        let table = self.desk.hold(Task::from(plain))?;
         Ok(Replies { table, account })
     }
 
-    // A hold is taken from the holds and spent. If it is handed back it comes to them again.
+    // A hold is spent.
     pub(crate) fn spend(
         &mut self,
         heap: Global,
         way: Way,
-        holds: &mut Vec<Hold>,
         place: usize,
     ) -> Result<Replies, AllocError>
-        requires { place < vec_len holds.old }
+        requires { place < vec_len self.old.desk.holds }
     {
-        let bears = Bears::from(&holds[place]);
-        let account = match way {
-            Way::Keep => self.account.keep(bears),
-            Way::Release => self.account.release(heap, bears)?,
-        };
-        let hold = holds.swap_remove(place);
-        let spent = match way {
-            Way::Keep => self.table.keep(hold),
-            Way::Release => self.table.release(hold),
-        };
-        let table = match spent {
-            Ok(()) => Reply::Done,
-            Err(SpendRefusal::NotHeld(back)) => {
-                let reply = Reply::HandedBack(Bears::from(&back));
-                holds.push_reserved(back);
-                reply
-            }
-        };
+        let bears = self.desk.bears(place);
+        let account = self.account.spend(heap, way, bears)?;
+        let table = self.desk.spend(way, place);
+        Ok(Replies { table, account })
+    }
+
+    // A hold is handed to another table.
+    pub(crate) fn hand_to(
+        &mut self,
+        other: &mut Watched<'_>,
+        heap: Global,
+        way: Way,
+        place: usize,
+    ) -> Result<Replies, AllocError>
+        requires place { place < vec_len self.old.desk.holds }
+        requires other { self.old.desk.number ≢ other.old.desk.number }
+    {
+        let bears = self.desk.bears(place);
+        let account = other.account.spend(heap, way, bears)?;
+        let table = self.desk.hand_to(&mut other.desk, way, place);
         Ok(Replies { table, account })
     }
 
     pub(crate) fn withdraw(&mut self, heap: Global, number: u32) -> Result<Replies, AllocError> {
         let account = self.account.withdraw(heap, number)?;
-        let table = Reply::from(self.table.withdraw(number));
+        let table = self.desk.withdraw(number);
         Ok(Replies { table, account })
     }
 
     pub(crate) fn bound(&self, number: u32) -> Replies {
         Replies {
-            table: Reply::from(self.table.bound(number)),
+            table: Reply::from(self.desk.table.bound(number)),
             account: self.account.bound(number),
         }
     }
 
     fn table_view(&self, heap: Global) -> Result<View, AllocError> {
-        let table = &self.table;
+        let table = &self.desk.table;
         Ok(View {
             room: table.room(),
             standing: standings(heap, |number| Standing::from(table.state_of(number)))?,

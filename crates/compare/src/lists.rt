@@ -1,15 +1,15 @@
 // Lists of calls of two tables, to each of which holds of the other are handed too.
 use super::account::Account;
 use super::bench::{Bench, Step};
-use super::calls::{Halt, Place, Watched, agree};
+use super::calls::{Halt, Watched, agree};
+use super::desk::Place;
 use super::entering::{Weight, entering_row};
 use super::plain::Plain;
 use super::random::{Case, Random};
 use analysis::Task;
 use anyhow::anyhow;
 use std::alloc::{AllocError, Global};
-use std::{fmt, iter};
-use table::Hold;
+use std::iter;
 
 // The number of the rows that stand in a row memory before it is lent to a table. No row that asks to enter has it.
 const STRANGER: u32 = 1000;
@@ -27,12 +27,6 @@ struct Start {
     weight: Weight,
     first: Lent,
     second: Lent,
-}
-
-impl fmt::Display for Lent {
-    fn fmt<W: fmt::Write>(&self, f: &mut fmt::Formatter<W>) -> fmt::Result {
-        write!(f, "number {}, {} places", self.number, self.memory.len())
-    }
 }
 
 // A place with a row, as it may be before a table has it.
@@ -60,6 +54,11 @@ impl Lent {
         Ok(Lent { number, memory })
     }
 
+    // The table of it.
+    fn watched(&mut self, heap: Global) -> Watched<'_> {
+        Watched::new(heap, self.number, self.memory.as_mut_slice())
+    }
+
     // Whether the memory has the rows of the account, and behind the twelfth place the rows that stood there before.
     fn agrees(&self, heap: Global, account: &Account) -> Result<(), Halt> {
         let strangers = self.memory.len().saturating_sub(12);
@@ -83,7 +82,11 @@ impl Start {
             Weight::Usual
         };
         let number = random.byte();
-        let other = number ^ random.byte().max(1);
+        let other = if random.one_in(10) {
+            number
+        } else {
+            random.byte()
+        };
         Ok(Start {
             weight,
             first: Lent::some(heap, random, weight, number)?,
@@ -91,65 +94,56 @@ impl Start {
         })
     }
 
-    // Plays a list of calls on the two tables.
-    fn play(
-        &mut self,
-        heap: Global,
-        random: &mut Random,
-        holds: &mut Vec<Hold>,
-        steps: &mut Vec<Step>,
-    ) -> Result<(), Halt> {
-        let number = self.first.number;
-        let first = Watched::new(heap, number, self.first.memory.as_mut_slice());
-        let number = self.second.number;
-        let second = Watched::new(heap, number, self.second.memory.as_mut_slice());
-        let bench = Bench::new(first, second, self.weight);
-        let (first, second) = bench.play(heap, random, holds, steps)?;
-        self.first.agrees(heap, &first)?;
-        self.second.agrees(heap, &second)
+    // Whether the memory of both tables is as it should be after the calls.
+    fn agrees(&self, heap: Global, accounts: &[Account; 2]) -> Result<(), Halt> {
+        let [first, second] = accounts;
+        self.first.agrees(heap, first)?;
+        self.second.agrees(heap, second)
     }
 }
 
-// Prints the calls up to the one at which a table and its account differ.
+// Prints the calls up to the one at which a table and its account differ, if they do.
 fn tell(
     rt: &HostRuntime,
     case: Case,
-    start: &Start,
+    accounts: [&Account; 2],
     steps: &[Step],
-    table: &str,
-    account: &str,
+    compared: Result<(), Halt>,
 ) -> anyhow::Result<()> {
+    let Err(halt) = compared else {
+        return Ok(());
+    };
+    let (table, account) = match halt {
+        Halt::NoMemory(error) => return Err(anyhow::Error::from(error)),
+        Halt::Differs { table, account } => (table, account),
+    };
     let Case { seed, index } = case;
+    let [first, second] = accounts;
     println!(rt; "List {index} of seed {seed}: the account answers otherwise.")?;
-    println!(rt;
-        "First: {}. Second: {}. The calls, with what the account answers:",
-        start.first, start.second
-    )?;
+    println!(rt; "First: {first}. Second: {second}. The calls, with what the account answers:")?;
     for step in steps {
         println!(rt; "{step}")?;
     }
     println!(rt; "The table:\n{table}\nThe account:\n{account}")?;
-    Ok(())
+    Err(anyhow!("a list of calls differs"))
 }
 
-// Compares all that is answered in one list of calls. The answer is the calls. Where it ends early, the holds that are not spent
-// stay in `holds`.
-pub(crate) fn compare_list(
-    rt: &HostRuntime,
-    case: Case,
-    holds: &mut Vec<Hold>,
-) -> anyhow::Result<Vec<Step>> {
+// Compares all that is answered in one list of calls. The answer is the calls.
+pub(crate) fn compare_list(rt: &HostRuntime, case: Case) -> anyhow::Result<Vec<Step>> {
     let heap = rt.alloc();
     let mut random = Random::new(case);
     let mut start = Start::some(heap, &mut random)?;
     let mut steps = Vec::new(heap);
-    match start.play(heap, &mut random, holds, &mut steps) {
-        Ok(()) => Ok(steps),
-        Err(Halt::NoMemory(error)) => Err(anyhow::Error::from(error)),
-        Err(Halt::Differs { table, account }) => {
-            let steps = steps.as_slice();
-            tell(rt, case, &start, steps, table.as_str(), account.as_str())?;
-            Err(anyhow!("a list of calls differs"))
-        }
-    }
+    let first = start.first.watched(heap);
+    let second = start.second.watched(heap);
+    let mut bench = Bench::new(first, second, start.weight);
+    let played = bench.play(heap, &mut random, &mut steps);
+    let told = tell(rt, case, bench.accounts(), steps.as_slice(), played);
+    let [first, second] = bench.close();
+    told?;
+    let accounts = [first, second];
+    let left = start.agrees(heap, &accounts);
+    let [first, second] = &accounts;
+    tell(rt, case, [first, second], steps.as_slice(), left)?;
+    Ok(steps)
 }

@@ -1,19 +1,15 @@
-// Compares the planner with a brute force that is written apart from it, on sets of rows and plan files made at random. Lists of
-// calls of a table are compared by the tests.
+// Compares the planner with a brute force that is written apart from it, on sets of rows, plan files and lists of calls made at
+// random.
 #![tactic(auto)]
 
-#[cfg(test)]
 mod account;
-#[cfg(test)]
 mod bench;
-#[cfg(test)]
 mod calls;
 mod checks;
 mod damage;
-#[cfg(test)]
+mod desk;
 mod entering;
 mod files;
-#[cfg(test)]
 mod lists;
 mod making;
 mod options;
@@ -22,23 +18,52 @@ mod random;
 mod reading;
 mod scan;
 mod sets;
-#[cfg(test)]
-mod tests;
 
 use files::compare_file;
+use lists::compare_list;
 use options::{HELP, Mode, Options, read_options};
 use random::Case;
-use reading::Check;
 use sets::compare_set;
+use std::alloc::AllocError;
 use std::collections::BTreeMap;
 
-// How many files each check has refused, and, as none, how many got a report.
-type Counts = BTreeMap<Option<Check>, u64>;
+// How many were refused by each check, and, as none, how many were not refused.
+type Counts = BTreeMap<Option<u32>, u64>;
+
+// One more that was refused by this check, or was not.
+fn count(counts: &mut Counts, check: Option<u32>) -> Result<(), AllocError> {
+    let count = counts.entry(check)?.or_insert(0);
+    *count = (*count).saturating_add(1);
+    Ok(())
+}
+
+// How many there are in all.
+fn total(counts: &Counts) -> u64 {
+    counts
+        .values()
+        .fold(0, |total: u64, count| total.saturating_add(*count))
+}
+
+// How many were refused.
+fn refused(counts: &Counts) -> u64 {
+    let accepted = counts.get(&None).copied().unwrap_or(0);
+    total(counts).saturating_sub(accepted)
+}
 
 // Tells how far a soak is, now and then.
 fn tell_progress(rt: &HostRuntime, options: &Options, done: u64, what: &str) -> anyhow::Result<()> {
     if options.mode == Mode::Soak && done % 10_000 == 0 {
         eprintln!(rt; "{what}: {done} compared")?;
+    }
+    Ok(())
+}
+
+// Tells how many were refused by each check.
+fn tell_refused(rt: &HostRuntime, counts: &Counts) -> anyhow::Result<()> {
+    for (check, count) in counts {
+        if let Some(check) = check {
+            println!(rt; "  by check {check}: {count}")?;
+        }
     }
     Ok(())
 }
@@ -58,32 +83,38 @@ fn compare_sets(rt: &HostRuntime, options: &Options) -> anyhow::Result<()> {
     Ok(())
 }
 
-// Tells the counts, that of the reports under the number 0.
-fn tell_counts(rt: &HostRuntime, counts: &Counts) -> anyhow::Result<()> {
-    for (check, count) in counts {
-        let number = check.map_or(0, |check| check as u32);
-        eprintln!(rt; "check {number}: {count} files")?;
-    }
-    Ok(())
-}
-
 fn compare_files(rt: &HostRuntime, options: &Options) -> anyhow::Result<()> {
     let seed = options.seed;
     let files = options.files;
-    let mut counts: Counts = BTreeMap::new(rt.alloc());
+    let mut counts = BTreeMap::new(rt.alloc());
     for index in 0..files {
         tell_progress(rt, options, index, "files")?;
         let check = compare_file(rt, Case { seed, index })?;
-        let count = counts.entry(check)?.or_insert(0);
-        *count = (*count).saturating_add(1);
+        count(&mut counts, check.map(|check| check as u32))?;
     }
-    if options.mode == Mode::Soak {
-        tell_counts(rt, &counts)?;
+    println!(rt;
+        "files: {files} compared, {} refused, 0 differ",
+        refused(&counts)
+    )?;
+    tell_refused(rt, &counts)
+}
+
+fn compare_lists(rt: &HostRuntime, options: &Options) -> anyhow::Result<()> {
+    let seed = options.seed;
+    let lists = options.lists;
+    let mut counts = BTreeMap::new(rt.alloc());
+    for index in 0..lists {
+        tell_progress(rt, options, index, "lists of calls")?;
+        for step in &compare_list(rt, Case { seed, index })? {
+            count(&mut counts, step.refusal())?;
+        }
     }
-    let reports = counts.get(&None).copied().unwrap_or(0);
-    let refused = files.saturating_sub(reports);
-    println!(rt; "files: {files} compared, {refused} refused, 0 differ")?;
-    Ok(())
+    println!(rt;
+        "lists: {lists} compared, {} calls, {} refused, 0 differ",
+        total(&counts),
+        refused(&counts)
+    )?;
+    tell_refused(rt, &counts)
 }
 
 fn run(rt: &HostRuntime) -> anyhow::Result<()> {
@@ -93,7 +124,8 @@ fn run(rt: &HostRuntime) -> anyhow::Result<()> {
         return Ok(());
     }
     compare_sets(rt, &options)?;
-    compare_files(rt, &options)
+    compare_files(rt, &options)?;
+    compare_lists(rt, &options)
 }
 
 fn main(rt: HostRuntime) -> anyhow::Result<()> {

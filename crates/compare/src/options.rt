@@ -8,14 +8,15 @@ use std::env::{self, Args};
 pub(crate) const HELP: &str = "\
 compare: compares the planner with a brute force that shares no code with it
 
-Without arguments it compares a fixed number of sets of rows and of plan files. At the first difference it prints
-the rows or the file, and both answers, and ends with status 1.
+Without arguments it compares a fixed number of sets of rows, of plan files and of lists of calls of two tables. At
+the first difference it prints the rows, the file or the calls, and both answers, and ends with status 1.
 
     --seed N     another seed than 1
     --sets N     so many sets of rows
     --files N    so many plan files
+    --lists N    so many lists of calls
 
-With any of these it tells on standard error how far it is, and how many files each check has refused.
+With any of these it tells on standard error how far it is.
 ";
 
 // What is asked of the program.
@@ -36,6 +37,8 @@ pub(crate) struct Options {
     pub(crate) seed: u64,
     pub(crate) sets: u64,
     pub(crate) files: u64,
+    // of calls
+    pub(crate) lists: u64,
 }
 
 const USUAL: Options = Options {
@@ -43,6 +46,7 @@ const USUAL: Options = Options {
     seed: 1,
     sets: 200_000,
     files: 200_000,
+    lists: 20_000,
 };
 
 // The number that stands behind an option.
@@ -66,9 +70,12 @@ pub(crate) fn read_options(rt: &HostRuntime) -> anyhow::Result<Options> {
             "--seed" => options.seed = number(&mut args)?,
             "--sets" => options.sets = number(&mut args)?,
             "--files" => options.files = number(&mut args)?,
+            "--lists" => options.lists = number(&mut args)?,
             "--help" => options.mode = Mode::Help,
             _ => {
-                return Err(anyhow!("compare takes --seed N, --sets N, --files N and --help"));
+                return Err(anyhow!(
+                    "compare takes --seed N, --sets N, --files N, --lists N and --help"
+                ));
             }
         }
     }
