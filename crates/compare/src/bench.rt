@@ -1,7 +1,8 @@
 // Two tables side by side, and calls of them.
 use super::account::{Account, Bears, Way};
 use super::calls::{Halt, Replies, Watched, agree};
-use super::entering::{LAST_NUMBER, Weight, entering_row};
+use super::entering::{LAST_NUMBER, entering_row};
+use super::making::Weight;
 use super::plain::Plain;
 use super::random::Random;
 use std::alloc::{AllocError, Global};

@@ -1,21 +1,12 @@
 // Rows that ask to enter a table: sound ones, and some with faults.
-use super::making::{some_factor, some_jobs, some_sections, some_suspension};
-use super::plain::{Jobs, Layer, Nested, Plain, Suspension};
+use super::making::{Name, Weight, light_jobs, some_factor, some_jobs, sound_row};
+use super::plain::{Layer, Nested, Plain, Suspension};
 use super::random::Random;
 
 // Rows that are sound have numbers up to this one, so that some repeat.
 pub(crate) const LAST_NUMBER: u32 = 24;
 
 const LAST_PRIORITY: u32 = 60;
-
-// How much time the rows of a list take.
-#[derive(Clone, Copy, PartialEq, Eq)]
-pub(crate) enum Weight {
-    // so little that a table can fill up
-    Light,
-    // enough to be late now and then
-    Usual,
-}
 
 fn some_layer(random: &mut Random) -> Layer {
     match random.below(6) {
@@ -28,10 +19,7 @@ fn some_layer(random: &mut Random) -> Layer {
 fn some_kind(random: &mut Random, weight: Weight) -> Nested {
     match weight {
         Weight::Light => Nested {
-            jobs: Jobs::Every {
-                job: 1,
-                period: random.within(30, 40),
-            },
+            jobs: light_jobs(random),
             inner: Layer::Bare,
             outer: Layer::Bare,
         },
@@ -40,26 +28,6 @@ fn some_kind(random: &mut Random, weight: Weight) -> Nested {
             inner: some_layer(random),
             outer: some_layer(random),
         },
-    }
-}
-
-// A row that passes all checks but perhaps those for a number or a priority that is taken, and that for lateness.
-fn sound_row(random: &mut Random, weight: Weight) -> Plain {
-    let kind = some_kind(random, weight);
-    // both are at most 2,000,000, so neither becomes 0 here
-    let spacing = u32::try_from(kind.spacing()).unwrap_or(0);
-    let own = u32::try_from(kind.own()).unwrap_or(0);
-    let suspension = match weight {
-        Weight::Light => Suspension::default(),
-        Weight::Usual => some_suspension(random),
-    };
-    Plain {
-        number: random.within(1, LAST_NUMBER),
-        priority: random.within(1, LAST_PRIORITY),
-        suspension,
-        deadline: spacing.saturating_sub(random.below(3)),
-        sections: some_sections(random, own.min(2)),
-        kind,
     }
 }
 
@@ -89,7 +57,12 @@ fn spoil(random: &mut Random, row: &mut Plain) {
 
 // A row that asks to enter.
 pub(crate) fn entering_row(random: &mut Random, weight: Weight) -> Plain {
-    let mut row = sound_row(random, weight);
+    let kind = some_kind(random, weight);
+    let name = Name {
+        number: random.within(1, LAST_NUMBER),
+        priority: random.within(1, LAST_PRIORITY),
+    };
+    let mut row = sound_row(random, weight, name, kind);
     let faults = match random.below(12) {
         0 => 2,
         1 | 2 => 1,

@@ -1,6 +1,6 @@
 // Plan files: what `answer` writes, against the long way.
 use super::damage::damage;
-use super::making::{Deal, file_row, some_clock};
+use super::making::{Deal, Weight, file_row, some_clock};
 use super::plain::{Factor, Jobs, Layer, Plain};
 use super::random::{Case, Random};
 use super::reading::{Check, Refusal, read_plan};
@@ -44,7 +44,8 @@ impl fmt::Display for Plain {
     }
 }
 
-// A plan file of up to five rows with nothing wrong in it, but that rows may be late.
+// A plan file with nothing wrong in it, but that rows may be late, or one row too many: of up to five rows, or now and then of
+// 11 to 13.
 fn sound_file(heap: Global, random: &mut Random) -> Result<String, AllocError> {
     let clock = some_clock(random);
     let Factor {
@@ -53,9 +54,13 @@ fn sound_file(heap: Global, random: &mut Random) -> Result<String, AllocError> {
     } = clock;
     let mut text = format!(in heap; "clock\t{numerator}\t{denominator}\n")?;
     let deal = Deal::new(random);
-    let rows = random.within(0, 5);
+    let weight = Weight::some(random, 400);
+    let rows = match weight {
+        Weight::Light => random.within(11, 13),
+        Weight::Usual => random.within(0, 5),
+    };
     for place in 0..rows {
-        let row = file_row(random, clock, deal, place);
+        let row = file_row(random, weight, clock, deal, place);
         write!(text, "{row}")?;
     }
     Ok(text)

@@ -3,7 +3,8 @@ use super::account::Account;
 use super::bench::{Bench, Step};
 use super::calls::{Halt, Watched, agree};
 use super::desk::Place;
-use super::entering::{Weight, entering_row};
+use super::entering::entering_row;
+use super::making::Weight;
 use super::plain::Plain;
 use super::random::{Case, Random};
 use analysis::Task;
@@ -76,11 +77,7 @@ impl Lent {
 
 impl Start {
     fn some(heap: Global, random: &mut Random) -> Result<Start, AllocError> {
-        let weight = if random.one_in(400) {
-            Weight::Light
-        } else {
-            Weight::Usual
-        };
+        let weight = Weight::some(random, 400);
         let number = random.byte();
         let other = if random.one_in(10) {
             number

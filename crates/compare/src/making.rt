@@ -10,6 +10,33 @@ pub(crate) struct Deal {
     step: u32,
 }
 
+// How much time the rows of a file or of a list take.
+#[derive(Clone, Copy, PartialEq, Eq)]
+pub(crate) enum Weight {
+    // so little that twelve may fit
+    Light,
+    // enough to be late now and then
+    Usual,
+}
+
+// What a row is known by.
+#[derive(Clone, Copy)]
+pub(crate) struct Name {
+    pub(crate) number: u32,
+    pub(crate) priority: u32,
+}
+
+impl Weight {
+    // Light once in so many times.
+    pub(crate) fn some(random: &mut Random, times: u32) -> Weight {
+        if random.one_in(times) {
+            Weight::Light
+        } else {
+            Weight::Usual
+        }
+    }
+}
+
 impl Deal {
     pub(crate) fn new(random: &mut Random) -> Deal {
         let first = random.below(13);
@@ -30,7 +57,7 @@ fn number_at(random: &mut Random, place: u32) -> u32 {
 }
 
 // Up to three locks are used, each by few rows.
-pub(crate) fn some_sections(random: &mut Random, longest: u32) -> [u32; 8] {
+fn some_sections(random: &mut Random, longest: u32) -> [u32; 8] {
     array::from_fn(|lock| {
         if (lock < 2 || lock == 7) && random.one_in(4) {
             random.within(1, longest)
@@ -41,7 +68,7 @@ pub(crate) fn some_sections(random: &mut Random, longest: u32) -> [u32; 8] {
 }
 
 // A suspension whose numbers are both 0, or neither.
-pub(crate) fn some_suspension(random: &mut Random) -> Suspension {
+fn some_suspension(random: &mut Random) -> Suspension {
     if random.one_in(3) {
         Suspension {
             length: random.within(1, 6),
@@ -79,6 +106,14 @@ pub(crate) fn some_jobs(random: &mut Random, longest: u32, shortest: u32) -> Job
         heavy,
         among,
         period,
+    }
+}
+
+// Jobs that take little time.
+pub(crate) fn light_jobs(random: &mut Random) -> Jobs {
+    Jobs::Every {
+        job: 1,
+        period: random.within(30, 40),
     }
 }
 
@@ -175,24 +210,46 @@ fn file_jobs(random: &mut Random) -> Jobs {
     some_jobs(random, 3, 20)
 }
 
-// A row of a plan file, which passes all checks but perhaps that for lateness.
-pub(crate) fn file_row(random: &mut Random, clock: Factor, deal: Deal, place: u32) -> Plain {
-    let delay = if random.one_in(3) { random.below(8) } else { 0 };
-    let kind = Nested {
-        jobs: file_jobs(random),
-        inner: Layer::Late(delay),
-        outer: Layer::Slow(clock),
+// A row with this name that passes all checks but perhaps those of the name, and that for lateness.
+pub(crate) fn sound_row(random: &mut Random, weight: Weight, name: Name, kind: Nested) -> Plain {
+    let suspension = match weight {
+        Weight::Light => Suspension::default(),
+        Weight::Usual => some_suspension(random),
     };
-    let suspension = some_suspension(random);
     // both are at most 2,000,000, so neither becomes 0 here
     let spacing = u32::try_from(kind.spacing()).unwrap_or(0);
     let own = u32::try_from(kind.own()).unwrap_or(0);
     Plain {
-        number: number_at(random, place),
-        priority: deal.priority(random, place),
+        number: name.number,
+        priority: name.priority,
         suspension,
         deadline: spacing.saturating_sub(random.below(3)),
         sections: some_sections(random, own.min(2)),
         kind,
     }
+}
+
+// A row of a plan file that passes all checks but perhaps that for lateness.
+pub(crate) fn file_row(
+    random: &mut Random,
+    weight: Weight,
+    clock: Factor,
+    deal: Deal,
+    place: u32,
+) -> Plain {
+    let delay = if random.one_in(3) { random.below(8) } else { 0 };
+    let jobs = match weight {
+        Weight::Light => light_jobs(random),
+        Weight::Usual => file_jobs(random),
+    };
+    let kind = Nested {
+        jobs,
+        inner: Layer::Late(delay),
+        outer: Layer::Slow(clock),
+    };
+    let name = Name {
+        number: number_at(random, place),
+        priority: deal.priority(random, place),
+    };
+    sound_row(random, weight, name, kind)
 }
