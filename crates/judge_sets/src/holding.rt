@@ -1,6 +1,5 @@
 // A row that is held over others again and again.
-ghost use Rattle.table.specs.Account.{Account};
-ghost use Rattle.table.specs.Agreement.{AgreesWith};
+ghost use Rattle.table.specs.Accounted.{IsAccounted};
 ghost use Rattle.judge_sets.specs.Lines.{set_demand};
 
 use super::line::Demand;
@@ -9,8 +8,8 @@ use table::{HoldRefusal, MOST_ROWS, Table};
 
 // Takes a row in, and keeps it.
 fn take_in(table: &mut Table<'_, Demand>, task: &Task<Demand>) -> Result<(), HoldRefusal>
-    requires { (a : Account) × AgreesWith set_demand a table.old }
-    ensures { (a : Account) × AgreesWith set_demand a table.new }
+    requires { IsAccounted set_demand table.old }
+    ensures { IsAccounted set_demand table.new }
 {
     let hold = table.hold(task.row, task.kind)?;
     table.keep(hold).unwrap();
@@ -19,8 +18,8 @@ fn take_in(table: &mut Table<'_, Demand>, task: &Task<Demand>) -> Result<(), Hol
 
 // Takes a row in, and gives it up again.
 fn try_out(table: &mut Table<'_, Demand>, task: &Task<Demand>) -> Result<(), HoldRefusal>
-    requires { (a : Account) × AgreesWith set_demand a table.old }
-    ensures { (a : Account) × AgreesWith set_demand a table.new }
+    requires { IsAccounted set_demand table.old }
+    ensures { IsAccounted set_demand table.new }
 {
     let hold = table.hold(task.row, task.kind)?;
     table.release(hold).unwrap();

@@ -7,8 +7,7 @@ mod once;
 mod tests;
 
 ghost use Rattle.own_kind.specs.Once.{jobs_demand};
-ghost use Rattle.table.specs.Account.{Account};
-ghost use Rattle.table.specs.Agreement.{AgreesWith};
+ghost use Rattle.table.specs.Accounted.{IsAccounted};
 
 use analysis::{Row, Task};
 use demand::{Either, Every, Left, Right};
@@ -50,8 +49,8 @@ fn contactor_test(job: u32) -> Task<Jobs> {
 
 // Holds a row and keeps it. That `keep` does not refuse the hold is proved, from what `hold` ensures.
 fn take_in(table: &mut Table<Jobs>, task: Task<Jobs>) -> Result<(), HoldRefusal>
-    requires { (a : Account) × AgreesWith jobs_demand a table.old }
-    ensures { (a : Account) × AgreesWith jobs_demand a table.new }
+    requires { IsAccounted jobs_demand table.old }
+    ensures { IsAccounted jobs_demand table.new }
 {
     let hold = table.hold(task.row, task.kind)?;
     table.keep(hold).unwrap();
@@ -69,7 +68,7 @@ fn tell_taken(rt: &HostRuntime, number: u32, taken: Result<(), HoldRefusal>) -> 
 }
 
 fn tell_rows(rt: &HostRuntime, table: &Table<Jobs>) -> io::Result<()>
-    requires { (a : Account) × AgreesWith jobs_demand a table.now }
+    requires { IsAccounted jobs_demand table.now }
 {
     for answer in table.answers().unwrap().rows() {
         println!(rt;

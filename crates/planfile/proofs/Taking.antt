@@ -10,9 +10,9 @@ use Rattle.table.specs.declared.Hold.{Hold as Token}
 use Rattle.table.specs.declared.Table.{Table}
 use Rattle.analysis.specs.declared.answers.Answers.{Answers}
 use Rattle.analysis.specs.Judge.{Answered, answers_of}
-use Rattle.table.specs.Account.{Account, Accepted, HoldsAnswered, number_of, with_row, with_kept}
+use Rattle.table.specs.Account.{Account, Accepted, Holds, HoldsAnswered, Spends, number_of, with_row, with_kept}
 use Rattle.table.specs.Agreement.{AgreesWith}
-use Rattle.table.proofs.Given.{Held, Spending, given_bears}
+use Rattle.table.proofs.InHand.{Turns, given_bears}
 use Rattle.demand.specs.declared.speed.Factor.{Factor}
 use Rattle.planfile.specs.declared.fault.Blame.{Blame}
 use Rattle.planfile.specs.Fault.{nothing, by, first_blame}
@@ -101,16 +101,16 @@ kept rows c h accepted =
 module _ {K : Type 0} (demand : K → Demand) (t u v : Table K) (rows : List Claim) (c : Claim) (h : Token) (all : Answers) where
   -- what a hold that is accepted does to each account, and what is answered with it
   abbrev pub HeldAnswered : Type 0
-  HeldAnswered = (a : Account) → AgreesWith demand a t → (b : Account) × HoldsAnswered a c (Ok (h, all)) b × AgreesWith demand b u
+  HeldAnswered = Turns demand t u (λ a b. HoldsAnswered a c (Ok (h, all)) b)
 
   -- the same without the answers
-  pub held_only : HeldAnswered → Held demand t u v c h
+  pub held_only : HeldAnswered → Turns demand t u (λ a b. Holds a c (Ok h) b)
   held_only hold a agrees =
       let p = hold a agrees in
       (p.0, p.1.0, p.2)
 
   -- after both calls the account has the row, and the answers are of all its rows
-  pub held_and_kept : HeldAnswered → Spending demand t u v c h (λ a. with_kept a h) (Ok tt) → AgreesWith demand (taking rows) t → Accepted (taking rows) c h × AgreesWith demand (taking (c ∷ rows)) v × Answered (loads (ranked (c ∷ rows))) (answers_of all)
+  pub held_and_kept : HeldAnswered → Turns demand u v (λ a b. Spends a h (with_kept a h) (Ok tt) b) → AgreesWith demand (taking rows) t → Accepted (taking rows) c h × AgreesWith demand (taking (c ∷ rows)) v × Answered (loads (ranked (c ∷ rows))) (answers_of all)
   held_and_kept hold keep agrees =
       let p = hold (taking rows) agrees in
       let q = keep p.0 p.2 in

@@ -1,10 +1,13 @@
 -- A hold in hand is spent without refusal, and stays one while other holds come and go. Some account agrees after each call. Assumes nothing.
-use Rattle.std.proofs.Common.{◌≡◌, ◌≢◌, ℕ, true, false, eqb, List, [], ◌∷◌, IfErr, IfOk, IsOk, Ok, Err, Result, ap, ◌∙◌, refl, arith}
+use Rattle.std.proofs.Common.{◌≡◌, ◌≢◌, ℕ, true, false, eqb, List, [], ◌∷◌, IfErr, IfOk, IsOk, Ok, Err, Result, ap, ◌∙◌, sym, subst, refl, arith}
 use Rattle.std.proofs.Math.Logic.{∥∥₁_elim, ∥∥₁_map}
 use Rattle.std.proofs.lemmas.Bool.Decides.{nat_tests}
-use Rattle.std.proofs.lemmas.Bool.{and_parts, eqb-true, false_from_ne_true, or_right}
+use Rattle.std.proofs.lemmas.Bool.{and_from, both_ways, eq-eqb, or_left, and_parts, eqb-true, false_from_ne_true, or_right}
 use Rattle.std.specs.Coded.{Coded-set, coded_bool, coded_ℕ}
-use Rattle.analysis.specs.Ranks.{Claim}
+use Rattle.analysis.specs.declared.judgement.JudgeRefusal.{JudgeRefusal}
+use Rattle.analysis.specs.declared.answers.Answers.{Answers}
+use Rattle.analysis.specs.Judge.{Answered, answers_of}
+use Rattle.analysis.specs.Ranks.{Claim, loads, ranked}
 use Rattle.demand.specs.Demand.{Demand}
 use Rattle.table.specs.declared.Hold.{Hold}
 use Rattle.table.specs.declared.HoldRefusal.{HoldRefusal}
@@ -13,10 +16,9 @@ use Rattle.table.specs.declared.SpendRefusal.TheVariants.{NotHeld}
 use Rattle.table.specs.declared.Table.{Table}
 use Rattle.table.specs.declared.WithdrawRefusal.{WithdrawRefusal}
 use Rattle.table.specs.declared.WithdrawRefusal.TheVariants.{NoSuchRow, NotKept}
-use Rattle.table.specs.Account.{Account, Bears, Holds, Spends, Withdraws, bears, has_number, number_of, spent, unspent}
+use Rattle.table.specs.Account.{Accepted, Account, Bears, Holds, Spends, Withdraws, bears, has_number, number_of, spent, unspent, with_row}
 use Rattle.table.specs.Agreement.{AgreesWith, NoneNamed}
 use Rattle.table.specs.Accounted.{IsAccounted, IsHolding}
-use Rattle.table.proofs.Given.{clash, given}
 use Rattle.table.proofs.Parts.{other_stays, unspent_own, unspent_row}
 use Rattle.table.proofs.Shared.{passed}
 
@@ -39,6 +41,17 @@ none_has : (n : ℕ) (cs : List Claim) → NoneNamed n cs → has_number n cs �
 none_has n [] none e = cc
 none_has n (c ∷ cs) none e = grind (arith, nat_tests, none_has n cs none.1)
 
+-- a hold that was accepted bears the two numbers that the account has of it
+pub given_bears : (a : Account) (c : Claim) (h : Hold) → Accepted a c h → bears h.table h.row (record { table = a.number; row = number_of c }) ≡ true
+given_bears a c h accepted =
+    and_from (eqb a.number h.table) (eqb (number_of c) h.row)
+    (eq-eqb a.number h.table (sym accepted.table))
+    (eq-eqb (number_of c) h.row (sym accepted.row))
+
+given : (a : Account) (c : Claim) (h : Hold) → Accepted a c h → unspent h.table h.row (with_row a c).holds ≡ true
+given a c h accepted =
+    or_left (bears h.table h.row (record { table = a.number; row = number_of c })) (unspent h.table h.row a.holds) (given_bears a c h accepted)
+
 same_holds : (a b : Account) (n : ℕ) (r : Result (Unit {0}) WithdrawRefusal) → Withdraws a n r b → b.holds ≡ a.holds
 same_holds a b n (Ok u) w = ap (λ (x : Account). x.holds) w.2
 same_holds a b n (Err NoSuchRow) w = ap (λ (x : Account). x.holds) w.1
@@ -47,7 +60,7 @@ same_holds a b n (Err NotKept) w = ap (λ (x : Account). x.holds) w.2
 -- a call that makes the table t the table u
 module _ {K : Type 0} (demand : K → Demand) (t u : Table K) where
   -- it turns each account of t into one of u, by the relation R
-  abbrev Turns : (Account → Account → Type 0) → Type 0
+  abbrev pub Turns : (Account → Account → Type 0) → Type 0
   Turns R = (a : Account) → AgreesWith demand a t → (b : Account) × R a b × AgreesWith demand b u
 
   pub still_accounted : (R : Account → Account → Type 0) → Turns R → IsAccounted demand t → IsAccounted demand u
@@ -95,7 +108,7 @@ module _ {K : Type 0} (demand : K → Demand) (t u : Table K) where
     pub not_refused : (r : Result (Unit {0}) SpendRefusal) → Turns (λ a b. Spends a h (after a) r b) → IsHolding demand t h → IsOk r
     not_refused (Ok x) f known = refl
     not_refused (Err (NotHeld back)) f known =
-        ∥∥₁_elim known (Coded-set coded_bool _ _) (λ k. absurd (clash _ k.unspent_yet (f k.account k.agrees).1.0))
+        ∥∥₁_elim known (Coded-set coded_bool _ _) (λ k. absurd (both_ways _ (f k.account k.agrees).1.0 k.unspent_yet))
 
     -- what a refusal hands back is the hold that was passed
     pub same_hold : (r : Result (Unit {0}) SpendRefusal) → Turns (λ a b. Spends a h (after a) r b) → IsAccounted demand t → IfErr r (λ e. e ≡ NotHeld h)
@@ -123,3 +136,8 @@ module _ {K : Type 0} (demand : K → Demand) (t u : Table K) where
 pub own_number : {K : Type 0} {demand : K → Demand} {t : Table K} (h : Hold) → IsHolding demand t h → h.table ≡ t.number
 own_number h known =
     ∥∥₁_elim known (Coded-set coded_ℕ _ _) (λ k. unspent_own k.account.number k.account.rows h.table h.row k.account.holds k.agrees.sound.holds k.unspent_yet ∙ k.agrees.number_is)
+
+-- what is answered for all rows is never an error
+pub answers_all : {K : Type 0} (demand : K → Demand) (t : Table K) (r : Result Answers JudgeRefusal) → ((a : Account) → AgreesWith demand a t → (all : Answers) × (r ≡ Ok all) × Answered (loads (ranked a.rows)) (answers_of all)) → IsAccounted demand t → IsOk r
+answers_all demand t r f known =
+    ∥∥₁_elim known (Coded-set coded_bool _ _) (λ k. subst (λ x. IsOk x) (sym (f k.account k.agrees).1) refl)

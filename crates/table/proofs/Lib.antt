@@ -11,6 +11,5 @@ pub mod Promise
 pub mod Holding
 pub mod Worked
 pub mod AfterRun
-pub mod Given
 pub mod InHand
 pub mod Emptying

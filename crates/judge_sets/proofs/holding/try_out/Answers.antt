@@ -1,21 +1,15 @@
--- The account that agreed before the hold answers both calls.
+use Rattle.std.proofs.Common.{Ok}
 use Rattle.table.specs.Account.{with_released}
-use Rattle.table.proofs.Given.{not_refused}
-use Rattle.judge_sets.specs.Lines.{set_demand}
+use Rattle.table.proofs.InHand.{not_refused, still_accounted, taken}
 use Rattle.judge_sets.proofs.holding.try_out.Goals as goal
 
 pub returns-in_err-hold : goal.returns-in_err-hold
-returns-in_err-hold c =
-    let p = c.in_err-hold.ensures.account c.requires.0 c.requires.1 in
-    (p.0, p.2)
+returns-in_err-hold c = still_accounted _ _ _ _ c.in_err-hold.ensures.account c.requires
 
 pub unwrap-requires : goal.unwrap-requires
 unwrap-requires c =
-    not_refused set_demand c.args.table.now c.hold.new.self c.release.new.self (record { row = c.args.task.now.row; demand = set_demand c.args.task.now.kind })
-    c.in_ok-hold.hold (λ a. with_released a c.in_ok-hold.hold) c.release.result c.in_ok-hold.ensures.account c.release.ensures.account c.requires.0 c.requires.1
+    let hold = c.in_ok-hold.hold in
+    not_refused _ _ c.release.new.self hold (λ a. with_released a hold) c.release.result c.release.ensures.account (taken _ _ c.hold.new.self _ (Ok hold) c.in_ok-hold.ensures.account c.requires)
 
 pub returns : goal.returns
-returns c =
-    let p = c.in_ok-hold.ensures.account c.requires.0 c.requires.1 in
-    let q = c.release.ensures.account p.0 p.2 in
-    (q.0, q.2)
+returns c = still_accounted _ _ _ _ c.release.ensures.account (still_accounted _ _ c.hold.new.self _ c.in_ok-hold.ensures.account c.requires)

@@ -1,5 +1,5 @@
 -- The row is held where the account accepts it, and a hold in hand is kept.
-use Rattle.std.proofs.Common.{◌∷◌, refl, subst, inr}
+use Rattle.std.proofs.Common.{◌∷◌, Ok, refl, subst, inr}
 use Rattle.std.proofs.lemmas.Result.{err_from_is_err_and}
 use Rattle.analysis.specs.Judge.{Answered, answers_of}
 use Rattle.analysis.specs.Ranks.{Claim, loads, ranked}
@@ -7,7 +7,7 @@ use Rattle.planfile.specs.Checks.{row_demand}
 use Rattle.planfile.specs.Reading.{taking}
 use Rattle.table.specs.Account.{Refused, Accepted, with_kept}
 use Rattle.table.specs.Agreement.{AgreesWith}
-use Rattle.table.proofs.Given.{not_refused}
+use Rattle.table.proofs.InHand.{not_refused, taken}
 use Rattle.planfile.proofs.Taking.{held_only, held_and_kept, held_claim, same_claim}
 use Rattle.planfile.proofs.row.take_row.Goals as goal
 
@@ -24,7 +24,8 @@ unwrap-requires c =
     let claim = held_claim c.args.clock c.in_ok-row.field-0 in
     let hold = c.in_ok-hold.hold in
     let held = held_only row_demand c.args.table.now c.hold_answered.new.self c.keep.new.self c.requires.0 claim hold c.in_ok-hold.answers c.in_ok-hold.ensures.account in
-    not_refused row_demand c.args.table.now c.hold_answered.new.self c.keep.new.self claim hold (λ a. with_kept a hold) c.keep.result held c.keep.ensures.account (taking c.requires.0) c.requires.1
+    not_refused _ _ c.keep.new.self hold (λ a. with_kept a hold) c.keep.result c.keep.ensures.account
+    (taken _ c.args.table.now c.hold_answered.new.self claim (Ok hold) held ∣ record { account = taking c.requires.0; agrees = c.requires.1 } ∣₁)
 
 pub returns : goal.returns
 returns c rows agrees =
