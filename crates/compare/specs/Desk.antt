@@ -13,7 +13,10 @@ use Rattle.table.specs.declared.Hold.{Hold}
 use Rattle.table.specs.declared.SpendRefusal.{SpendRefusal}
 use Rattle.table.specs.declared.SpendRefusal.TheVariants.{NotHeld}
 use Rattle.table.specs.declared.Table.{Table}
+use Rattle.table.specs.Account.{Account, with_kept, with_released}
 use Rattle.table.specs.Accounted.{IsHolding}
+use Rattle.compare.specs.declared.account.Way.{Way}
+use Rattle.compare.specs.declared.account.Way.TheVariants.{Keep, Release}
 
 -- a kind of this type, or one that is delayed or slowed
 abbrev pub Layered : Type 0 → Type 0
@@ -45,3 +48,8 @@ module _ (t : Table TwoLayers) (hs : List Hold) where
 -- the hold that a refusal hands back
 abbrev pub handed_back : SpendRefusal → Hold
 handed_back (NotHeld h) = h
+
+-- the account with the hold spent in this way
+abbrev pub spent_by : Way → Account → Hold → Account
+spent_by Keep a h = with_kept a h
+spent_by Release a h = with_released a h

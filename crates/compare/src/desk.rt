@@ -1,10 +1,12 @@
 // A table with the holds that it gave. Each is spent where the table takes it, so that none is left when a comparison ends early.
-ghost use Rattle.std.specs.Prelude.{◌≡◌, ◌≢◌, ◌+◌, ◌<◌, IfErr, IfOk, IsOk, vec_items};
+ghost use Rattle.std.specs.Prelude.{◌≡◌, ◌≢◌, ◌+◌, ◌<◌, IfErr, IfOk, IsOk, slice_index_or, vec_items};
 ghost use Rattle.std.specs.Vec.{vec_len, vec_capacity};
+ghost use Rattle.table.specs.Account.{Account as AccountOf, Spends};
+ghost use Rattle.table.specs.Agreement.{AgreesWith};
 ghost use Rattle.table.specs.Accounted.{IsAccounted, IsHolding};
 ghost use Rattle.table.specs.declared.Hold.{Hold as HoldOf};
 ghost use Rattle.table.specs.declared.SpendRefusal.TheVariants.{NotHeld};
-ghost use Rattle.compare.specs.Desk.{two_layers, InHand, OneMore, handed_back};
+ghost use Rattle.compare.specs.Desk.{two_layers, InHand, OneMore, handed_back, spent_by};
 
 use super::account::{Bears, Reply, Way};
 use super::sets::TwoLayers;
@@ -29,6 +31,7 @@ impl Way {
     // Spends a hold in this way.
     fn spend(self, table: &mut Table<'_, TwoLayers>, hold: Hold) -> Result<(), SpendRefusal>
         requires { IsAccounted two_layers table.old }
+        ensures account { (a : AccountOf) → AgreesWith two_layers a table.old → (b : AccountOf) × Spends a hold (spent_by self a hold) result b × AgreesWith two_layers b table.new }
         ensures accounted { IsAccounted two_layers table.new }
         ensures taken { IsHolding two_layers table.old hold → IsOk result }
         ensures same { IfErr result (λ e. e ≡ NotHeld hold) }
@@ -94,9 +97,10 @@ impl<'a> Desk<'a> {
         Ok(self.take_in(held))
     }
 
-    // Takes a hold out.
+    // Takes the hold at a place out.
     fn take_out(&mut self, place: usize) -> Hold
         requires { place < vec_len self.old.holds }
+        ensures value { result ≡ slice_index_or (vec_items self.old.holds) place result }
         ensures more { OneMore self.new.table (vec_items self.new.holds) result }
         ensures room { vec_len self.new.holds < vec_capacity self.new.holds }
         ensures table { self.new.table ≡ self.old.table }
