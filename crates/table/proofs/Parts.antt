@@ -66,7 +66,7 @@ pub other_stays : (table n : ℕ) (x : Bears) (hs : List Bears) → bears table 
 other_stays table n x [] e = refl
 other_stays table n x (h ∷ hs) e = grind (arith, nat_tests, other_stays table n x hs e)
 
--- so it is of another row
+-- and so is a hold of another row
 pub others_stay : (table n other m : ℕ) (hs : List Bears) → m ≢ n → unspent other m (spent table n hs) ≡ unspent other m hs
 others_stay table n other m hs ne = other_stays table n (record { table = other; row = m }) hs (grind (arith, nat_tests))
 
