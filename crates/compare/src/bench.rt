@@ -75,8 +75,8 @@ fn some_number(random: &mut Random, account: &Account) -> u32 {
     }
 }
 
-// Spends a hold of the one table, if there is one, with that table or with the other one. Tables of the same number cannot tell
-// their holds apart.
+// Spends a hold of the one table, if there is one, with that table or with the other one. The two have different numbers, and
+// only such tables can tell their holds apart: the numbers are compared since `hand_to` asks for it.
 fn spend_from(
     heap: Global,
     random: &mut Random,

@@ -79,11 +79,8 @@ impl Start {
     fn some(heap: Global, random: &mut Random) -> Result<Start, AllocError> {
         let weight = Weight::some(random, 400);
         let number = random.byte();
-        let other = if random.one_in(10) {
-            number
-        } else {
-            random.byte()
-        };
+        // two tables of one program have different numbers
+        let other = number ^ random.byte().max(1);
         Ok(Start {
             weight,
             first: Lent::some(heap, random, weight, number)?,

@@ -58,11 +58,12 @@ fn tell_progress(rt: &HostRuntime, options: &Options, done: u64, what: &str) -> 
     Ok(())
 }
 
-// Tells how many were refused by each check.
+// Tells how many were refused by each check, which is named by its code.
 fn tell_refused(rt: &HostRuntime, counts: &Counts) -> anyhow::Result<()> {
+    println!(rt; "refused, by code:")?;
     for (check, count) in counts {
-        if let Some(check) = check {
-            println!(rt; "  by check {check}: {count}")?;
+        if let Some(code) = check {
+            println!(rt; "  {code}: {count}")?;
         }
     }
     Ok(())
