@@ -21,6 +21,15 @@ fn row(number: u32) -> Row {
     }
 }
 
+// A refusal by its number. A hold that comes back is taken apart here, where its fields are in reach.
+fn by_number<T>(spent: Result<T, SpendRefusal>) -> Result<T, u32> {
+    spent.map_err(|refusal| {
+        let number = refusal.number();
+        let SpendRefusal::NotHeld(Hold { table: _, row: _ }) = refusal;
+        number
+    })
+}
+
 // Holds a row and spends the hold. A refusal is answered by its number.
 fn pass<'a, F, T>(table: &mut Table<'a, Every>, row: Row, spend: F) -> Result<T, u32>
 where
@@ -28,12 +37,7 @@ where
     requires { F.IsAlwaysCallable spend }
 {
     let hold = table.hold(row, KIND).map_err(HoldRefusal::number)?;
-    spend(table, hold).map_err(|refusal| {
-        let number = refusal.number();
-        // a hold that comes back is taken apart here, where its fields are in reach
-        let SpendRefusal::NotHeld(Hold { table: _, row: _ }) = refusal;
-        number
-    })
+    by_number(spend(table, hold))
 }
 
 #[test]
@@ -145,15 +149,15 @@ fn answers_with_the_hold(rt: HostRuntime) -> Result<(), Fail> {
     let mut places = [EMPTY; 2];
     let mut table = Table::new(1, &mut places);
     assert_eq!(rt; pass(&mut table, row(2), Table::keep), Ok(()));
-    let (state, bounds) = match table.hold_answered(row(3), KIND) {
+    let (state, kept, bound) = match table.hold_answered(row(3), KIND) {
         Ok((hold, answers)) => {
             let state = table.state_of(3);
-            let Hold { table: _, row: _ } = hold;
-            (state, answers.rows().iter().map(|row| row.bound).max())
+            let bound = answers.rows().iter().map(|row| row.bound).max();
+            (state, by_number(table.keep(hold)), bound)
         }
-        Err(refusal) => (State::Free, Some(refusal.number())),
+        Err(refusal) => (State::Free, Err(refusal.number()), None),
     };
-    assert_eq!(rt; (state, bounds), (State::Held(3), Some(2)));
+    assert_eq!(rt; (state, kept, bound), (State::Held(3), Ok(()), Some(2)));
     assert_eq!(rt; table.bound(2), Ok((2, 0)));
     Ok(())
 }
