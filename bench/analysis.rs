@@ -82,6 +82,21 @@ pub struct Row {
     pub sections: [u32; LOCKS],
 }
 
+impl Row {
+    // The row of these numbers, in the order in which both formats have them.
+    pub fn new(numbers: [u32; 5], sections: [u32; LOCKS]) -> Row {
+        let [number, priority, suspension, suspensions, deadline] = numbers;
+        Row {
+            number,
+            priority,
+            suspension,
+            suspensions,
+            deadline,
+            sections,
+        }
+    }
+}
+
 #[derive(Clone, Copy)]
 pub struct Task<K> {
     pub row: Row,

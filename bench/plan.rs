@@ -1,6 +1,6 @@
 // Plan files: what the program `plan` prints for one, its report or the line of its refusal. It is a module of `planner`.
 
-use crate::analysis::{Answer, Jobs, Kind, Row, Task, CAP, LOCKS, LONGEST};
+use crate::analysis::{Answer, Jobs, Kind, Row, Task, CAP, LONGEST};
 use crate::table::{Refusal, Table};
 use std::fmt::{self, Write};
 use std::ops::RangeInclusive;
@@ -225,8 +225,9 @@ fn read_heavy(fields: &Fields) -> Result<Jobs, LineFault> {
 
 fn read_task(fields: &Fields, clock: Clock) -> Result<Task<Slowed>, LineFault> {
     let heavy = check_words(fields)?;
-    let [number, priority, suspension, suspensions, deadline, delay] = fields.numbers(2)?;
-    let sections = fields.numbers::<LOCKS>(8)?;
+    let numbers = fields.numbers(2)?;
+    let [delay] = fields.numbers(7)?;
+    let sections = fields.numbers(8)?;
     let jobs = if heavy {
         read_heavy(fields)?
     } else {
@@ -235,14 +236,7 @@ fn read_task(fields: &Fields, clock: Clock) -> Result<Task<Slowed>, LineFault> {
     if delay >= jobs.spacing() {
         return Err(LineFault::Kind(3));
     }
-    let row = Row {
-        number,
-        priority,
-        suspension,
-        suspensions,
-        deadline,
-        sections,
-    };
+    let row = Row::new(numbers, sections);
     let kind = Slowed { jobs, delay, clock };
     Ok(Task { row, kind })
 }

@@ -76,8 +76,9 @@ enum Line {
 }
 
 fn parse_row<'a>(words: &mut impl Iterator<Item = &'a str>) -> Option<Task<Jobs>> {
-    let mut numbers = [0; 5 + LOCKS];
-    for number in &mut numbers {
+    let mut numbers = [0; 5];
+    let mut sections = [0; LOCKS];
+    for number in numbers.iter_mut().chain(&mut sections) {
         *number = words.next()?.parse().ok()?;
     }
     let kind = words.next()?;
@@ -94,15 +95,7 @@ fn parse_row<'a>(words: &mut impl Iterator<Item = &'a str>) -> Option<Task<Jobs>
         },
         _ => return None,
     };
-    let [number, priority, suspension, suspensions, deadline, sections @ ..] = numbers;
-    let row = Row {
-        number,
-        priority,
-        suspension,
-        suspensions,
-        deadline,
-        sections,
-    };
+    let row = Row::new(numbers, sections);
     Some(Task { row, kind })
 }
 
