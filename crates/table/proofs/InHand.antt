@@ -15,10 +15,10 @@ use Rattle.table.specs.declared.SpendRefusal.{SpendRefusal}
 use Rattle.table.specs.declared.SpendRefusal.TheVariants.{NotHeld}
 use Rattle.table.specs.declared.Table.{Table}
 use Rattle.table.specs.declared.WithdrawRefusal.{WithdrawRefusal}
-use Rattle.table.specs.declared.WithdrawRefusal.TheVariants.{NoSuchRow, NotKept}
 use Rattle.table.specs.Account.{Accepted, Account, Bears, Holds, Spends, Withdraws, bears, has_number, number_of, spent, unspent, with_row}
 use Rattle.table.specs.Agreement.{AgreesWith, NoneNamed}
 use Rattle.table.specs.Accounted.{IsAccounted, IsHolding}
+use Rattle.table.proofs.Checks.{is_not_unspent}
 use Rattle.table.proofs.Parts.{other_stays, unspent_own, unspent_row}
 use Rattle.table.proofs.Shared.{passed}
 
@@ -53,9 +53,8 @@ given a c h accepted =
     or_left (bears h.table h.row (record { table = a.number; row = number_of c })) (unspent h.table h.row a.holds) (given_bears a c h accepted)
 
 same_holds : (a b : Account) (n : ℕ) (r : Result (Unit {0}) WithdrawRefusal) → Withdraws a n r b → b.holds ≡ a.holds
-same_holds a b n (Ok u) w = ap (λ (x : Account). x.holds) w.2
-same_holds a b n (Err NoSuchRow) w = ap (λ (x : Account). x.holds) w.1
-same_holds a b n (Err NotKept) w = ap (λ (x : Account). x.holds) w.2
+same_holds a b n (Ok u) w = ap (λ (x : Account). x.holds) w.1
+same_holds a b n (Err e) w = ap (λ (x : Account). x.holds) w.1
 
 -- a call that makes the table t the table u
 module _ {K : Type 0} (demand : K → Demand) (t u : Table K) where
@@ -108,7 +107,7 @@ module _ {K : Type 0} (demand : K → Demand) (t u : Table K) where
     pub not_refused : (r : Result (Unit {0}) SpendRefusal) → Turns (λ a b. Spends a h (after a) r b) → IsHolding demand t h → IsOk r
     not_refused (Ok x) f known = refl
     not_refused (Err (NotHeld back)) f known =
-        ∥∥₁_elim known (Coded-set coded_bool _ _) (λ k. absurd (both_ways _ (f k.account k.agrees).1.0 k.unspent_yet))
+        ∥∥₁_elim known (Coded-set coded_bool _ _) (λ k. absurd (both_ways _ (is_not_unspent (unspent h.table h.row k.account.holds) (f k.account k.agrees).1.0) k.unspent_yet))
 
     -- what a refusal hands back is the hold that was passed
     pub same_hold : (r : Result (Unit {0}) SpendRefusal) → Turns (λ a b. Spends a h (after a) r b) → IsAccounted demand t → IfErr r (λ e. e ≡ NotHeld h)

@@ -25,6 +25,7 @@ use Rattle.analysis.specs.Judge.{Judged, LateRow, Answered, answers_of, no_answe
 use Rattle.analysis.proofs.AnyOrder.{any_order}
 use Rattle.analysis.proofs.Order.{to_front, highest_first}
 use Rattle.analysis.proofs.Ranked.{claims_append, length_ranked}
+use Rattle.table.proofs.Checks.{absent_applies, is_absent}
 use Rattle.table.proofs.Lookups.{tasks, claims_at_most}
 use Rattle.table.proofs.Shared.{reordered_back, length_reordered, number_reordered, passed, length_ranks, has_plan}
 
@@ -146,11 +147,12 @@ module _ (a : Account) (answers : List Answer) (ranks : Answered (loads (ranked 
       let count : length (loads (ranked a.rows)) ≡ length a.rows = length_ranks a.rows in
       let ranked_count = length_ranked a.rows in
       let many = ranks.count in
-      number_reordered n (highest_first a.rows).reordered
-      ∙ none_numbered n (rows (ranked a.rows)) (ranked a.rows) (λ k l e. no_answer_at n answers (sym found) k (omega arith) ((ranks.rows k (omega arith)).number ∙ e))
+      absent_applies (has_number n a.rows)
+      (number_reordered n (highest_first a.rows).reordered
+      ∙ none_numbered n (rows (ranked a.rows)) (ranked a.rows) (λ k l e. no_answer_at n answers (sym found) k (omega arith) ((ranks.rows k (omega arith)).number ∙ e)))
 
 -- an account has no row of a number that is not found among the answers
 pub no_bound_found : {K : Type 0} {demand : K → Demand} {a : Account} (t : Table K) → AgreesWith demand a t → (answers : Answers) → Judged (claims demand (tasks t) None) (Ok answers) → (n : ℕ) → answer_of n (answers_of answers) ≡ None → has_number n a.rows ≡ false
 unfolding all_listed
 no_bound_found {a = a} t agrees answers judged n none =
-    bound_found a (answers_of answers) (all_listed t agrees (Ok answers) judged).2 n None (sym none)
+    is_absent (has_number n a.rows) (bound_found a (answers_of answers) (all_listed t agrees (Ok answers) judged).2 n None (sym none))

@@ -1,16 +1,15 @@
 -- Every call keeps the account sound. Assumes nothing.
-use Rattle.std.proofs.Common.{◌≡◌, ℕ, true, false, eqb, List, ◌∷◌, Ok, Err, refl, not-suc-le-zero}
+use Rattle.std.proofs.Common.{◌≡◌, ℕ, true, false, eqb, List, [], ◌∷◌, Ok, Err, refl, not-suc-le-zero}
 use Rattle.std.proofs.lemmas.Bool.{or_left, eq-eqb}
 use Rattle.demand.specs.Demand.{Lawful}
 use Rattle.demand.specs.Refusals.{first}
 use Rattle.analysis.specs.Ranks.{Claim}
 use Rattle.analysis.proofs.Removal.{removal_keeps_in_time}
 use Rattle.table.specs.declared.Hold.{Hold}
-use Rattle.table.specs.declared.SpendRefusal.TheVariants.{NotHeld}
-use Rattle.table.specs.declared.WithdrawRefusal.TheVariants.{NoSuchRow, NotKept}
 use Rattle.table.specs.Account.{Account, Bears, AllInTime, fresh, number_of, has_number, hold_checks, unspent, held, spent, without, with_row, with_kept, with_withdrawn}
 use Rattle.table.specs.Agreement.{Sound, OwnHolds}
-use Rattle.table.specs.Runs.{Event, holding, keeping, releasing, withdrawing, bounding, Step, Run, begin, more}
+use Rattle.table.specs.Runs.{Event, holding, keeping, releasing, withdrawing, bounding, Step, after_all, Run}
+use Rattle.table.proofs.Checks.{is_unspent, not_held}
 use Rattle.table.proofs.Shared.{passed, ranked_lawful}
 use Rattle.table.proofs.Parts.{without_some, numbers_kept, priorities_kept, lawful_kept, own_more, own_spent, own_without, own_released, unspent_own}
 
@@ -76,14 +75,13 @@ sound_step : (a b : Account) (e : Event) → Sound a → Step a e b → Sound b
 sound_step a b (holding c (Ok h)) s step = rw step.1.1 (with_row_sound a s c step.0 step.1.0.passes step.1.0.in_time)
 sound_step a b (holding c (Err e)) s step = rw step.1.1 s
 sound_step a b (keeping h (Ok u)) s step = rw step.1 (with_kept_sound a s h)
-sound_step a b (keeping h (Err (NotHeld back))) s step = rw step.2 s
-sound_step a b (releasing h (Ok u)) s step = rw step.1 (released_sound a s h.table h.row step.0)
-sound_step a b (releasing h (Err (NotHeld back))) s step = rw step.2 s
-sound_step a b (withdrawing n (Ok u)) s step = rw step.2 (with_withdrawn_sound a s n step.1)
-sound_step a b (withdrawing n (Err NoSuchRow)) s step = rw step.1 s
-sound_step a b (withdrawing n (Err NotKept)) s step = rw step.2 s
+sound_step a b (keeping h (Err e)) s step = rw step.2 s
+sound_step a b (releasing h (Ok u)) s step = rw step.1 (released_sound a s h.table h.row (is_unspent (unspent h.table h.row a.holds) step.0))
+sound_step a b (releasing h (Err e)) s step = rw step.2 s
+sound_step a b (withdrawing n (Ok u)) s step = rw step.1 (with_withdrawn_sound a s n (not_held (has_number n a.rows) (held n a.holds) step.0))
+sound_step a b (withdrawing n (Err e)) s step = rw step.1 s
 sound_step a b (bounding n r) s step = rw step.1 s
 
-pub sound : (number room : ℕ) {es : List Event} {a : Account} → Run (fresh number room) es a → Sound a
-sound number room begin = fresh_sound number room
-sound number room (more {e = e} {a = a} {b = b} run step) = sound_step a b e (sound number room run) step
+pub sound : (number room : ℕ) (es : List Event) → Run (fresh number room) es → Sound (after_all (fresh number room) es)
+sound number room [] run = fresh_sound number room
+sound number room (e ∷ es) run = sound_step (after_all (fresh number room) es) (after_all (fresh number room) (e ∷ es)) e (sound number room es run.0) run.1

@@ -1,3 +1,4 @@
+pub mod Checks
 pub mod Shared
 pub mod Lookups
 pub mod Changes
@@ -10,6 +11,6 @@ pub mod Members
 pub mod Promise
 pub mod Holding
 pub mod Worked
-pub mod AfterRun
+pub mod Histories
 pub mod InHand
 pub mod Emptying

@@ -1,5 +1,5 @@
 -- Rows and holds that are taken out of a list, by their numbers. Assumes nothing.
-use Rattle.std.proofs.Common.{◌≡◌, ℕ, true, false, eqb, ◌≢◌, List, [], ◌∷◌, sym, refl, ap, ◌∙◌, subst, arith}
+use Rattle.std.proofs.Common.{◌≡◌, ℕ, true, false, eqb, ◌≢◌, ◌⊎◌, List, [], ◌∷◌, sym, refl, ap, ◌∙◌, subst, arith}
 use Rattle.std.proofs.lemmas.Bool.Decides.{nat_tests}
 use Rattle.std.proofs.lemmas.Bool.{cond_both}
 use Rattle.demand.specs.Demand.{Lawful}
@@ -8,7 +8,11 @@ use Rattle.analysis.specs.Removal.{SomeOf, none, keep, leave}
 use Rattle.analysis.proofs.Lawful.{AllLawful}
 use Rattle.table.specs.Account.{Bears, bears, number_of, has_number, has_priority, unspent, held, spent, without}
 use Rattle.table.specs.Agreement.{NoneNamed, DistinctNumbers, LawfulRows, OwnHolds}
-use Rattle.table.specs.Runs.{Among}
+
+-- x is one of these
+abbrev pub Among : {A : Type 0} → A → List A → Type 0
+Among x [] = ⊥
+Among x (y ∷ ys) = (y ≡ x) ⊎ Among x ys
 
 -- the rows that are left are some of the rows
 pub without_some : (n : ℕ) (cs : List Claim) → SomeOf ◌≡◌ (without n cs) cs

@@ -14,10 +14,12 @@ use Rattle.table.specs.declared.SpendRefusal.TheVariants.{NotHeld}
 use Rattle.table.specs.declared.State.{State}
 use Rattle.table.specs.declared.State.TheVariants.{Free, Held, Kept}
 use Rattle.table.specs.declared.Table.{Table}
-use Rattle.table.specs.Account.{Account, Bears, has_number, unspent, held, spent, Spends}
+use Rattle.demand.specs.Refusals.{first}
+use Rattle.table.specs.Account.{Account, Bears, has_number, unspent, held, spent, spend_checks, Spends}
 use Rattle.table.specs.Agreement.{AgreesWith, StandsAt, StateOf, OwnHolds}
 use Rattle.table.specs.Places.{names, At, HeldHere}
 use Rattle.table.proofs.Lookups.{tasks, task_at, state_at, AtLow, named, named_more, number_found}
+use Rattle.table.proofs.Checks.{spent_applies, unspent_passes}
 use Rattle.table.proofs.Parts.{unspent_own, unspent_row}
 use Rattle.table.proofs.Shared.{number_reordered}
 
@@ -33,7 +35,7 @@ spent_gone table n (h ∷ hs) = grind (arith, nat_tests, spent_gone table n hs)
 
 module _ {K : Type 0} (a : Account) (n : ℕ) where
   -- where the hold of a task's row is unspent, the row is held
-  is_held_there : (s : State) (o : Option (Task K)) → StandsAt a s o → named n o ≡ true → unspent a.number n a.holds ≡ true → s ≡ Held n
+  pub is_held_there : (s : State) (o : Option (Task K)) → StandsAt a s o → named n o ≡ true → unspent a.number n a.holds ≡ true → s ≡ Held n
   is_held_there s o h e u = grind (arith, nat_tests)
 
 -- the task of a row that is held, or kept: its hold is unspent, or it is not
@@ -87,6 +89,10 @@ module _ {K : Type 0} {demand : K → Demand} {a : Account} (t : Table K) (agree
   pub still_ours : (h : Hold) (p : ℕ) → HeldHere t h p → unspent h.table h.row a.holds ≡ true
   still_ours h p here = rw (here.0, ← agrees.number_is) (held_at h.row p (here.1.0.0, here.1.1)).unspent_is
 
+  -- so it may be spent
+  pub may_spend : (h : Hold) (p : ℕ) → HeldHere t h p → first (spend_checks a h) ≡ 0
+  may_spend h p here = unspent_passes (unspent h.table h.row a.holds) (still_ours h p here)
+
   -- an unspent hold is of this table, and of one of its rows
   ours : (h : Hold) → unspent h.table h.row a.holds ≡ true → h.table ≡ a.number
   ours h e = unspent_own a.number a.rows h.table h.row a.holds agrees.sound.holds e
@@ -122,4 +128,4 @@ module _ {K : Type 0} {demand : K → Demand} {a : Account} (t : Table K) (agree
 
   -- a hold whose row is not held here comes back, and the account is as it was
   pub comes_back : (h : Hold) (after : Account) (r : Result (Unit {0}) SpendRefusal) → r ≡ Err (NotHeld h) → ((p : ℕ) → HeldHere t h p → ⊥) → (b : Account) × Spends a h after r b × AgreesWith demand b t
-  comes_back h after r is away = (a, rw is (not_unspent h away, refl, refl), agrees)
+  comes_back h after r is away = (a, rw is (spent_applies (unspent h.table h.row a.holds) (not_unspent h away), refl, refl), agrees)

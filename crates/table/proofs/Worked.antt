@@ -60,7 +60,7 @@ worked_figures =
       );
       one_in_time =
           (record { passes = refl; in_time = record { R = garage_bounds; V = garage_vectors; bounds = with_9 }; table = refl; row = refl }, refl);
-      withdrawn = (refl, refl, refl);
+      withdrawn = (refl, refl);
       then_one = record { rank = 0; within = omega arith; number = refl; R = λ _. 5; V = λ _. 0; bounds = without_3; bound = refl; vector = refl };
       then_two = record { rank = 1; within = omega arith; number = refl; R = λ _. 5; V = λ _. 0; bounds = without_3; bound = refl; vector = refl };
     }

@@ -1,6 +1,7 @@
 -- The account of holds: what a table answers, by the arguments of its calls alone. Assumes nothing.
 -- How to read it: a is the account before a call, b the one after it, c a row with the meaning of its kind, h a hold, n the number of a row. The
 -- calls are `Holds`, `HoldsAnswered`, `Spends` (keep and release), `Withdraws` and `BoundsAnswered`; each says which answers the account allows.
+-- A check is a pair, whether it applies and its number; `first` is the number of the first that applies, and 0 where none does.
 use Rattle.std.specs.Prelude.{◌≡◌, ℕ, ◌<◌, Bool, true, false, cond, not, ◌&&◌, ◌||◌, List, [], ◌∷◌, ◌++◌, length, Ok, Err, Result, ◌==◌, nat_le, nat_lt}
 use Rattle.demand.specs.Refusals.{first}
 use Rattle.analysis.specs.declared.judgement.JudgeRefusal.{JudgeRefusal}
@@ -158,6 +159,11 @@ abbrev pub Holds : Account → Claim → Result Hold HoldRefusal → Account →
 Holds a c (Ok h) b = Accepted a c h × (b ≡ with_row a c)
 Holds a c (Err e) b = Refused a c e × (b ≡ a)
 
+-- the hold that came with answers, or why none did
+abbrev pub hold_part : Result (Hold × Answers) HoldRefusal → Result Hold HoldRefusal
+hold_part (Ok p) = Ok p.0
+hold_part (Err e) = Err e
+
 -- the same, where all rows are answered too, the new one among them
 abbrev pub HoldsAnswered : Account → Claim → Result (Hold × Answers) HoldRefusal → Account → Type 0
 HoldsAnswered a c (Ok p) b = Holds a c (Ok p.0) b × Answered (loads (ranked (c ∷ a.rows))) (answers_of p.1)
@@ -195,20 +201,31 @@ with_kept a h = record { number = a.number; room = a.room; rows = a.rows; holds 
 abbrev pub with_released : Account → Hold → Account
 with_released a h = record { number = a.number; room = a.room; rows = without h.row a.rows; holds = spent h.table h.row a.holds }
 
--- what a call of keep or release answers, where `after` is the account with the hold spent
+-- the hold that a refusal hands back
+abbrev pub handed_back : SpendRefusal → Hold
+handed_back (NotHeld h) = h
+
+-- When a hold is not spent: it is none of the unspent ones.
+abbrev pub spend_checks : Account → Hold → List (Bool × ℕ)
+spend_checks a h = (not (unspent h.table h.row a.holds), 12) ∷ []
+
+-- what a call of keep or release answers, where `after` is the account with the hold spent; a hold that is not spent comes back
 abbrev pub Spends : Account → Hold → Account → Result (Unit {0}) SpendRefusal → Account → Type 0
-Spends a h after (Ok u) b = (unspent h.table h.row a.holds ≡ true) × (b ≡ after)
-Spends a h after (Err (NotHeld back)) b = (unspent h.table h.row a.holds ≡ false) × (back ≡ h) × (b ≡ a)
+Spends a h after (Ok u) b = (first (spend_checks a h) ≡ 0) × (b ≡ after)
+Spends a h after (Err e) b = (first (spend_checks a h) ≡ spend_number e) × (handed_back e ≡ h) × (b ≡ a)
 
 -- the row of this number goes out
 abbrev pub with_withdrawn : Account → ℕ → Account
 with_withdrawn a n = record { number = a.number; room = a.room; rows = without n a.rows; holds = a.holds }
 
+-- When a row is not withdrawn, in this order: there is no such row; it is held.
+abbrev pub withdraw_checks : Account → ℕ → List (Bool × ℕ)
+withdraw_checks a n = (not (has_number n a.rows), 13) ∷ (held n a.holds, 14) ∷ []
+
 -- what a call of withdraw answers
 abbrev pub Withdraws : Account → ℕ → Result (Unit {0}) WithdrawRefusal → Account → Type 0
-Withdraws a n (Ok u) b = (has_number n a.rows ≡ true) × (held n a.holds ≡ false) × (b ≡ with_withdrawn a n)
-Withdraws a n (Err WithdrawNoSuchRow) b = (has_number n a.rows ≡ false) × (b ≡ a)
-Withdraws a n (Err NotKept) b = (has_number n a.rows ≡ true) × (held n a.holds ≡ true) × (b ≡ a)
+Withdraws a n (Ok u) b = (first (withdraw_checks a n) ≡ 0) × (b ≡ with_withdrawn a n)
+Withdraws a n (Err e) b = (first (withdraw_checks a n) ≡ withdraw_number e) × (b ≡ a)
 
 -- t and v are the bound and the vector of the row with the number n among these rows
 pub record BoundOf (cs : List Claim) (n t v : ℕ) : Type 0 where
@@ -221,7 +238,11 @@ pub record BoundOf (cs : List Claim) (n t v : ℕ) : Type 0 where
   pub bound : t ≡ R rank
   pub vector : v ≡ V rank
 
+-- When no bound is answered: there is no such row.
+abbrev pub bound_checks : Account → ℕ → List (Bool × ℕ)
+bound_checks a n = (not (has_number n a.rows), 13) ∷ []
+
 -- what a call of bound answers; it changes nothing
 abbrev pub BoundsAnswered : Account → ℕ → Result (ℕ × ℕ) BoundRefusal → Type 0
 BoundsAnswered a n (Ok p) = BoundOf a.rows n p.0 p.1
-BoundsAnswered a n (Err BoundNoSuchRow) = has_number n a.rows ≡ false
+BoundsAnswered a n (Err e) = first (bound_checks a n) ≡ bound_number e

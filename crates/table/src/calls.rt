@@ -1,13 +1,14 @@
 // The calls of a table.
-ghost use Rattle.std.specs.Prelude.{◌≡◌, ℕ, min, length, Some, None, MatchResult};
+ghost use Rattle.std.specs.Prelude.{◌≡◌, ℕ, min, [], length, Some, None, MatchResult};
 ghost use Rattle.demand.specs.Refusals.{first};
 ghost use Rattle.table.specs.declared.State.TheVariants.{Free, Held, Kept};
-ghost use Rattle.table.specs.Account.{Account, fresh, no_byte, row_checks, check_number, as_refusal, Holds, HoldsAnswered, Spends, with_kept, with_released, Withdraws, BoundsAnswered};
+ghost use Rattle.table.specs.Account.{Account, fresh, no_byte, row_checks, check_number, as_refusal, Holds, HoldsAnswered, hold_part, Spends, with_kept, with_released, Withdraws, BoundsAnswered};
 ghost use Rattle.table.specs.declared.SpendRefusal.TheVariants.{NotHeld};
 ghost use Rattle.table.specs.Agreement.{AgreesWith};
 ghost use Rattle.table.specs.Memory.{Emptied, SameTable, PutAt, ChangedAt, MarkedAt};
 ghost use Rattle.table.specs.Places.{Uses, HeldHere};
-ghost use Rattle.table.specs.Runs.{EveryRun};
+ghost use Rattle.table.specs.Runs.{holding, keeping, releasing, withdrawing, bounding};
+ghost use Rattle.table.specs.History.{HasHistory, Continues, EveryHistory};
 
 use super::lookup::{any_longer, find_answer};
 use super::{
@@ -39,7 +40,8 @@ impl<'a, K: Kind + Drop> Table<'a, K> {
     // An empty table over row memory, of which it uses twelve places at most. What stood there is let go.
     pub fn new(number: u8, places: &'a mut [Option<Task<K>>]) -> Table<'a, K>
         ensures agrees { AgreesWith K.demand (fresh number (min (length places.old) 12)) result }
-        ensures every_run { EveryRun number (min (length places.old) 12) }
+        ensures history { HasHistory K.demand [] result }
+        ensures every_history { EveryHistory K.demand }
         ensures memory { Emptied places.old result.places.now }
         ensures number { result.number ≡ number }
         ensures lent { result.places.ghost_name ≡ places.entry.ghost_name }
@@ -88,6 +90,7 @@ impl<'a, K: Kind + Drop> Table<'a, K> {
     // Takes a row, if all rows are in time with it, and answers with the hold what is answered for all rows then.
     pub fn hold_answered(&mut self, row: Row, kind: K) -> Result<(Hold, Answers), HoldRefusal>
         ensures account { (a : Account) → AgreesWith K.demand a self.old → (b : Account) × HoldsAnswered a (record { row = row; demand = K.demand kind }) result b × AgreesWith K.demand b self.new }
+        ensures history { Continues K.demand (holding (record { row = row; demand = K.demand kind }) (hold_part result)) self.old self.new }
         ensures memory { MatchResult result (λ p. ChangedAt self.old self.new Free (Held row.number) (Some (record { row = row; kind = kind }))) (λ e. SameTable self.old self.new) }
     {
         self.check_row(&row, &kind)?;
@@ -105,6 +108,7 @@ impl<'a, K: Kind + Drop> Table<'a, K> {
     // Takes a row, if all rows are in time with it.
     pub fn hold(&mut self, row: Row, kind: K) -> Result<Hold, HoldRefusal>
         ensures account { (a : Account) → AgreesWith K.demand a self.old → (b : Account) × Holds a (record { row = row; demand = K.demand kind }) result b × AgreesWith K.demand b self.new }
+        ensures history { Continues K.demand (holding (record { row = row; demand = K.demand kind }) result) self.old self.new }
         ensures memory { MatchResult result (λ h. ChangedAt self.old self.new Free (Held row.number) (Some (record { row = row; kind = kind }))) (λ e. SameTable self.old self.new) }
     {
         let (hold, _) = self.hold_answered(row, kind)?;
@@ -127,6 +131,7 @@ impl<'a, K: Kind + Drop> Table<'a, K> {
     // Spends a hold, and keeps its row.
     pub fn keep(&mut self, hold: Hold) -> Result<(), SpendRefusal>
         ensures account { (a : Account) → AgreesWith K.demand a self.old → (b : Account) × Spends a hold (with_kept a hold) result b × AgreesWith K.demand b self.new }
+        ensures history { Continues K.demand (keeping hold result) self.old self.new }
         ensures memory { MatchResult result (λ _. MarkedAt self.old self.new (Held hold.row) (Kept hold.row)) (λ e. SameTable self.old self.new) }
     {
         let row = hold.row;
@@ -138,6 +143,7 @@ impl<'a, K: Kind + Drop> Table<'a, K> {
     // Spends a hold, and takes its row out.
     pub fn release(&mut self, hold: Hold) -> Result<(), SpendRefusal>
         ensures account { (a : Account) → AgreesWith K.demand a self.old → (b : Account) × Spends a hold (with_released a hold) result b × AgreesWith K.demand b self.new }
+        ensures history { Continues K.demand (releasing hold result) self.old self.new }
         ensures memory { MatchResult result (λ _. ChangedAt self.old self.new (Held hold.row) Free None) (λ e. SameTable self.old self.new) }
     {
         let place = self.spend(hold)?;
@@ -148,6 +154,7 @@ impl<'a, K: Kind + Drop> Table<'a, K> {
     // Takes a kept row out.
     pub fn withdraw(&mut self, number: u32) -> Result<(), WithdrawRefusal>
         ensures account { (a : Account) → AgreesWith K.demand a self.old → (b : Account) × Withdraws a number result b × AgreesWith K.demand b self.new }
+        ensures history { Continues K.demand (withdrawing number result) self.old self.new }
         ensures memory { MatchResult result (λ _. ChangedAt self.old self.new (Kept number) Free None) (λ e. SameTable self.old self.new) }
     {
         let place = self.place_of(number).ok_or(WithdrawRefusal::NoSuchRow)?;
@@ -160,7 +167,8 @@ impl<'a, K: Kind + Drop> Table<'a, K> {
 
     // The bound and the vector of a row.
     pub fn bound(&self, number: u32) -> Result<(u32, u32), BoundRefusal>
-        ensures { (a : Account) → AgreesWith K.demand a self.now → BoundsAnswered a number result }
+        ensures account { (a : Account) → AgreesWith K.demand a self.now → BoundsAnswered a number result }
+        ensures history { Continues K.demand (bounding number result) self.now self.now }
     {
         // never an error where some account agrees with the table, and only there can that be proved
         let answers = self.answers().map_err(|_| BoundRefusal::NoSuchRow)?;

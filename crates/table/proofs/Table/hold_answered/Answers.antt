@@ -1,3 +1,12 @@
+use Rattle.std.proofs.Common.{Result}
+use Rattle.analysis.specs.declared.answers.Answers.{Answers}
+use Rattle.demand.specs.Demand.{Demand, Lawful}
+use Rattle.table.specs.declared.Hold.{Hold}
+use Rattle.table.specs.declared.HoldRefusal.{HoldRefusal}
+use Rattle.table.specs.declared.Table.{Table}
+use Rattle.table.specs.Account.{Account, HoldsAnswered, hold_part}
+use Rattle.table.specs.Agreement.{AgreesWith}
+use Rattle.table.specs.History.{Continues}
 use Rattle.std.proofs.Common.{◌≡◌, None, Some, Ok, Err, sym, refl, ap, ◌∙◌, subst, arith, rules}
 use Rattle.std.proofs.lemmas.Result.{err_from_is_err_and}
 use Rattle.analysis.specs.Candidates.{claims}
@@ -11,6 +20,8 @@ use Rattle.table.specs.Places.{At}
 use Rattle.table.proofs.Changes.{row_in}
 use Rattle.table.proofs.Holding.{refused_early, no_place_found, place_found, refused_judged}
 use Rattle.table.proofs.Judgements.{newcomer_in_time, newcomer_listed}
+use Rattle.table.proofs.Histories.{continues}
+use Rattle.table.specs.Runs.{holding}
 use Rattle.table.proofs.Table.hold_answered.Goals as goal
 
 pub returns-in_err-check_row-clause-account : goal.returns-in_err-check_row-clause-account
@@ -54,3 +65,26 @@ returns-clause-account g c a agrees =
       ),
       row_in c.args.self.now agrees c.put.new.self c.in_ok-place.place at task c.put.ensures (g.met.K.Kind.lawful c.args.kind) pass in_time,
     )
+
+-- what comes with the hold does not count
+from_answered : {K : Type 0} {demand : K → Demand} {t u : Table K} (row : Claim) (r : Result (Hold × Answers) HoldRefusal) → Lawful row.demand → ((a : Account) → AgreesWith demand a t → (b : Account) × HoldsAnswered a row r b × AgreesWith demand b u) → Continues demand (holding row (hold_part r)) t u
+from_answered {demand = demand} {t = t} {u = u} row (Ok p) lawful f =
+    continues demand t u (holding row (Ok p.0)) (λ a agrees. let b = f a agrees in (b.0, (lawful, b.1.0), b.2))
+from_answered {demand = demand} {t = t} {u = u} row (Err e) lawful f =
+    continues demand t u (holding row (Err e)) (λ a agrees. let b = f a agrees in (b.0, (lawful, b.1), b.2))
+
+pub returns-in_err-check_row-clause-history : goal.returns-in_err-check_row-clause-history
+returns-in_err-check_row-clause-history g c =
+    from_answered (record { row = c.args.row; demand = g.K.Kind.demand c.args.kind }) c.from_residual.result (g.met.K.Kind.lawful c.args.kind) (returns-in_err-check_row-clause-account g c)
+
+pub returns-in_err-place-clause-history : goal.returns-in_err-place-clause-history
+returns-in_err-place-clause-history g c =
+    from_answered (record { row = c.args.row; demand = g.K.Kind.demand c.args.kind }) c.from_residual-in_err-place.result (g.met.K.Kind.lawful c.args.kind) (returns-in_err-place-clause-account g c)
+
+pub returns-in_err-answers-clause-history : goal.returns-in_err-answers-clause-history
+returns-in_err-answers-clause-history g c =
+    from_answered (record { row = c.args.row; demand = g.K.Kind.demand c.args.kind }) c.from_residual-in_err-answers.result (g.met.K.Kind.lawful c.args.kind) (returns-in_err-answers-clause-account g c)
+
+pub returns-clause-history : goal.returns-clause-history
+returns-clause-history g c =
+    from_answered (record { row = c.args.row; demand = g.K.Kind.demand c.args.kind }) (Ok (record { table = c.put.new.self.number; row = c.args.row.number }, c.in_ok-answers.answers)) (g.met.K.Kind.lawful c.args.kind) (returns-clause-account g c)
