@@ -1,8 +1,9 @@
 -- A hold in hand is spent without refusal, and stays one while other holds come and go. Some account agrees after each call. Assumes nothing.
-use Rattle.std.proofs.Common.{◌≡◌, ◌≢◌, ℕ, true, false, eqb, List, [], ◌∷◌, IfErr, IfOk, IsOk, Ok, Err, Result, ap, ◌∙◌, sym, subst, refl, arith}
+use Rattle.std.specs.List.{list_any}
+use Rattle.std.proofs.Common.{◌≡◌, ◌≢◌, ℕ, zero, suc, ◌<◌, inl, inr, get_or, length, true, false, eqb, List, [], ◌∷◌, IfErr, IfOk, IsOk, Ok, Err, Result, ap, ◌∙◌, sym, subst, refl, arith}
 use Rattle.std.proofs.Math.Logic.{∥∥₁_elim, ∥∥₁_map}
 use Rattle.std.proofs.lemmas.Bool.Decides.{nat_tests}
-use Rattle.std.proofs.lemmas.Bool.{and_from, both_ways, eq-eqb, or_left, and_parts, eqb-true, false_from_ne_true, or_right}
+use Rattle.std.proofs.lemmas.Bool.{cases_Bool, and_from, both_ways, eq-eqb, or_left, and_parts, eqb-true, false_from_ne_true, or_right}
 use Rattle.std.specs.Coded.{Coded-set, coded_bool, coded_ℕ}
 use Rattle.analysis.specs.declared.judgement.JudgeRefusal.{JudgeRefusal}
 use Rattle.analysis.specs.declared.answers.Answers.{Answers}
@@ -18,9 +19,17 @@ use Rattle.table.specs.declared.WithdrawRefusal.{WithdrawRefusal}
 use Rattle.table.specs.Account.{Accepted, Account, Bears, Holds, Spends, Withdraws, bears, has_number, number_of, spent, unspent, with_row}
 use Rattle.table.specs.Agreement.{AgreesWith, NoneNamed}
 use Rattle.table.specs.Accounted.{IsAccounted, IsHolding}
-use Rattle.table.proofs.Checks.{is_not_unspent}
+use Rattle.table.specs.History.{Continues}
+use Rattle.table.specs.Places.{has_held, is_held, HeldHere}
+use Rattle.table.specs.Runs.{keeping, releasing}
+use Rattle.table.specs.declared.State.{State}
+use Rattle.table.specs.declared.State.TheVariants.{Free, Held, Kept}
+use Rattle.table.proofs.Checks.{is_not_unspent, spent_applies}
+use Rattle.table.proofs.Histories.{continues}
+use Rattle.table.proofs.Lookups.{within}
 use Rattle.table.proofs.Parts.{other_stays, unspent_own, unspent_row}
 use Rattle.table.proofs.Shared.{passed}
+use Rattle.table.proofs.Spending.{held_at, not_unspent, still_ours}
 
 abbrev hold_of : ℕ → ℕ → Hold
 hold_of table row = record { table = table; row = row }
@@ -55,6 +64,26 @@ given a c h accepted =
 same_holds : (a b : Account) (n : ℕ) (r : Result (Unit {0}) WithdrawRefusal) → Withdraws a n r b → b.holds ≡ a.holds
 same_holds a b n (Ok u) w = ap (λ (x : Account). x.holds) w.1
 same_holds a b n (Err e) w = ap (λ (x : Account). x.holds) w.1
+
+-- a state of a held row is at a place, if any has it
+held_place : (states : List State) (n : ℕ) → list_any (is_held n) states ≡ true → (p : ℕ) × (p < length states) × (get_or states p Free ≡ Held n)
+held_place [] n e = cc
+held_place (s ∷ states) n e = elim (cases_Bool (is_held n s)) [
+  | inl here ↦ (0, omega arith, state_is s here)
+  | inr other ↦
+      let f = held_place states n (rw other at e) in
+      (suc f.0, let l = f.1 in omega arith, f.2)
+]
+  where
+    state_is : (s : State) → is_held n s ≡ true → s ≡ Held n
+    state_is Free e = cc
+    state_is (Held m) e = ap Held (eqb-true m n e)
+    state_is (Kept m) e = cc
+
+held_at_place : (states : List State) (n p : ℕ) → get_or states p Free ≡ Held n → list_any (is_held n) states ≡ true
+held_at_place [] n p e = cc
+held_at_place (s ∷ states) n zero e = rw e (or_left (eqb n n) (list_any (is_held n) states) (eq-eqb n n refl))
+held_at_place (s ∷ states) n (suc p) e = or_right (is_held n s) (list_any (is_held n) states) (held_at_place states n p e)
 
 -- a call that makes the table t the table u
 module _ {K : Type 0} (demand : K → Demand) (t u : Table K) where
@@ -140,3 +169,27 @@ own_number h known =
 pub answers_all : {K : Type 0} (demand : K → Demand) (t : Table K) (r : Result Answers JudgeRefusal) → ((a : Account) → AgreesWith demand a t → (all : Answers) × (r ≡ Ok all) × Answered (loads (ranked a.rows)) (answers_of all)) → IsAccounted demand t → IsOk r
 answers_all demand t r f known =
     ∥∥₁_elim known (Coded-set coded_bool _ _) (λ k. subst (λ x. IsOk x) (sym (f k.account k.agrees).1) refl)
+
+module _ {K : Type 0} {demand : K → Demand} {a : Account} (t : Table K) (agrees : AgreesWith demand a t) where
+  -- a row stands as held exactly where its hold is unspent
+  pub has_held_is : (n : ℕ) → has_held t n ≡ unspent t.number n a.holds
+  has_held_is n = elim (cases_Bool (has_held t n)) [
+    | inl there ↦
+        let at = held_place t.states n there in
+        there ∙ sym (still_ours t agrees (hold_of t.number n) at.0 (held_here at.0 at.1 at.2))
+    | inr none ↦ none ∙ sym (not_unspent t agrees (hold_of t.number n) (λ p here. both_ways (has_held t n) none (held_at_place t.states n p here.1.1)))
+  ]
+    where
+      held_here : (p : ℕ) → p < length t.states → get_or t.states p Free ≡ Held n → HeldHere t (hold_of t.number n) p
+      held_here p l e =
+          let low : p < 12 = let all = agrees.states_are in omega arith in
+          let it = held_at t agrees n p (low, e) in
+          (refl, ((low, within t p it.task it.stands), e))
+
+-- a hold that no account has unspent is refused, and nothing changes
+module _ {K : Type 0} (demand : K → Demand) (t : Table K) (h : Hold) (spent_yet : (a : Account) → AgreesWith demand a t → unspent h.table h.row a.holds ≡ false) where
+  pub keep_refused : Continues demand (keeping h (Err (NotHeld h))) t t
+  keep_refused = continues demand t t (keeping h (Err (NotHeld h))) (λ a agrees. (a, (spent_applies (unspent h.table h.row a.holds) (spent_yet a agrees), refl, refl), agrees))
+
+  pub release_refused : Continues demand (releasing h (Err (NotHeld h))) t t
+  release_refused = continues demand t t (releasing h (Err (NotHeld h))) (λ a agrees. (a, (spent_applies (unspent h.table h.row a.holds) (spent_yet a agrees), refl, refl), agrees))

@@ -1,5 +1,5 @@
 -- What the judgement of the rows at the places says of the account. Assumes nothing.
-use Rattle.std.proofs.Common.{◌≡◌, ℕ, zero, suc, ◌<◌, false, eqb, ◌≢◌, List, [], ◌∷◌, ◌++◌, length, get_or, Some, None, Ok, Err, Option, Result, sym, refl, ◌∙◌, subst, inl, inr, arith, length-take, eqb-true}
+use Rattle.std.proofs.Common.{◌≡◌, ℕ, zero, suc, ◌<◌, false, eqb, ◌≢◌, List, [], ◌∷◌, ◌++◌, length, get_or, Some, None, Ok, Err, Option, Result, IfOk, sym, refl, ◌∙◌, subst, inl, inr, arith, length-take, eqb-true}
 use Rattle.std.specs.Option.{ok_or}
 use Rattle.std.proofs.lemmas.Bool.Decides.{nat_tests}
 use Rattle.std.proofs.lemmas.Bool.{cases_Bool}
@@ -21,7 +21,8 @@ use Rattle.table.specs.Places.{answer_of}
 use Rattle.analysis.specs.declared.answers.Answers.{Answers}
 use Rattle.analysis.specs.declared.judgement.JudgeRefusal.{JudgeRefusal}
 use Rattle.analysis.specs.declared.judgement.JudgeRefusal.TheVariants.{TooMany, Late}
-use Rattle.analysis.specs.Judge.{Judged, LateRow, Answered, answers_of, no_answer, bounds_of, vectors_of}
+use Rattle.table.specs.History.{rows_at}
+use Rattle.analysis.specs.Judge.{Judged, InTime, LateRow, Answered, answers_of, no_answer, bounds_of, vectors_of}
 use Rattle.analysis.proofs.AnyOrder.{any_order}
 use Rattle.analysis.proofs.Order.{to_front, highest_first}
 use Rattle.analysis.proofs.Ranked.{claims_append, length_ranked}
@@ -58,13 +59,22 @@ no_answer_at n [] e k l = omega arith
 no_answer_at n (x ∷ rest) e zero l = grind (arith, nat_tests)
 no_answer_at n (x ∷ rest) e (suc k) l = grind (arith, nat_tests, no_answer_at n rest)
 
+-- without a newcomer those that are judged are those at the places
+no_newcomer : {K : Type 0} (demand : K → Demand) (os : List (Option (Task K))) → claims demand os None ≡ claims_of demand os
+no_newcomer demand os = claims_append demand os (None ∷ []) ∙ append-nil (claims_of demand os)
+
+-- where all rows at the places are judged to be in time
+pub all_in_time : {K : Type 0} (demand : K → Demand) (t : Table K) (r : Result Answers JudgeRefusal) → Judged (claims demand (tasks t) None) r → IfOk r (λ all. InTime (rows_at demand t) (answers_of all))
+all_in_time demand t (Ok all) judged = subst (λ (cs : List Claim). InTime cs (answers_of all)) (no_newcomer demand (tasks t)) judged
+all_in_time demand t (Err e) judged = tt
+
 module _ {K : Type 0} {demand : K → Demand} {a : Account} (t : Table K) (agrees : AgreesWith demand a t) where
   abbrev pub claim_of_task : Task K → Claim
   claim_of_task u = record { row = u.row; demand = demand u.kind }
 
   -- those at the places are the account's rows
   same_claims : claims demand (tasks t) None ≡ claims_of demand (tasks t)
-  same_claims = claims_append demand (tasks t) (None ∷ []) ∙ append-nil (claims_of demand (tasks t))
+  same_claims = no_newcomer demand (tasks t)
 
   rows_reordered : Reordered a.rows (claims demand (tasks t) None)
   rows_reordered = subst (Reordered a.rows) (sym same_claims) (reordered_back agrees.rows_are)

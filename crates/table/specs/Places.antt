@@ -1,6 +1,7 @@
 -- What stands at a place, and at which places a table looks. Assumes nothing.
 -- How to read it: t is a table, p a place, and P something that is said of the state at a place.
 use Rattle.std.specs.Prelude.{◌≡◌, ℕ, ◌<◌, Bool, false, cond, List, [], ◌∷◌, length, Some, None, Option, MatchOption, ◌==◌, slice_index_or}
+use Rattle.std.specs.List.{list_any}
 use Rattle.analysis.specs.declared.Answer.{Answer}
 use Rattle.table.specs.declared.Hold.{Hold}
 use Rattle.table.specs.declared.State.{State}
@@ -12,6 +13,12 @@ abbrev pub names : State → ℕ → Bool
 names Free n = false
 names (Held m) n = m == n
 names (Kept m) n = m == n
+
+-- the row with the number n stands there as held
+abbrev pub is_held : ℕ → State → Bool
+is_held n Free = false
+is_held n (Held m) = m == n
+is_held n (Kept m) = false
 
 -- bound and vector of the first answer for the row with the number n
 abbrev pub answer_of : ℕ → List Answer → Option (ℕ × ℕ)
@@ -30,6 +37,10 @@ module _ {K : Type 0} (t : Table K) where
   -- a place that the table uses and of whose state P is true, or `None` where there is none
   abbrev pub PlaceWhere : (State → Type 0) → Option ℕ → Type 0
   PlaceWhere P r = MatchOption r ((p : ℕ) → At P p → ⊥) (At P)
+
+  -- the row with the number n stands as held at some place
+  abbrev pub has_held : ℕ → Bool
+  has_held n = list_any (is_held n) t.states
 
   -- the row of the hold is held at the place
   abbrev pub HeldHere : Hold → ℕ → Type 0

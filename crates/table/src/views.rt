@@ -1,10 +1,11 @@
 // What a caller may ask of a table, of a hold and of a refusal.
-ghost use Rattle.std.specs.Prelude.{◌≡◌, ◌+◌, length, Ok};
+ghost use Rattle.std.specs.Prelude.{◌≡◌, ◌+◌, length, IfOk, Ok};
 ghost use Rattle.analysis.specs.declared.answers.Answers.{Answers as Listed};
-ghost use Rattle.analysis.specs.Judge.{Answered, answers_of};
+ghost use Rattle.analysis.specs.Judge.{Answered, InTime, answers_of};
 ghost use Rattle.analysis.specs.Ranks.{ranked, loads};
 ghost use Rattle.table.specs.Account.{Account, hold_number, spend_number, withdraw_number, bound_number};
 ghost use Rattle.table.specs.Agreement.{AgreesWith, StateOf};
+ghost use Rattle.table.specs.History.{rows_at};
 
 use super::{BoundRefusal, Hold, HoldRefusal, SpendRefusal, State, Table, WithdrawRefusal};
 use analysis::{Answers, JudgeRefusal, judge};
@@ -82,7 +83,8 @@ impl<'a, K: Kind + Drop> Table<'a, K> {
 
     // Number, bound, vector and blocking of all rows, highest first. The rows of a table are in time, so it is never an error.
     pub fn answers(&self) -> Result<Answers, JudgeRefusal>
-        ensures { (a : Account) → AgreesWith K.demand a self.now → (all : Listed) × (result ≡ Ok all) × Answered (loads (ranked a.rows)) (answers_of all) }
+        ensures account { (a : Account) → AgreesWith K.demand a self.now → (all : Listed) × (result ≡ Ok all) × Answered (loads (ranked a.rows)) (answers_of all) }
+        ensures in_time { IfOk result (λ all. InTime (rows_at K.demand self.now) (answers_of all)) }
     {
         judge(self.used(), &None)
     }

@@ -7,11 +7,11 @@ use Rattle.table.proofs.Table.bound.Goals as goal
 
 pub returns-in_err-answers-clause-account : goal.returns-in_err-answers-clause-account
 returns-in_err-answers-clause-account g c a agrees =
-    let listed = c.answers.ensures a agrees in absurd (grind (arith, listed.1, c.map_err.ensures.cases))
+    let listed = c.answers.ensures.account a agrees in absurd (grind (arith, listed.1, c.map_err.ensures.cases))
 
 pub returns-clause-account : goal.returns-clause-account
 returns-clause-account g c a agrees =
-    let listed = c.answers.ensures a agrees in
+    let listed = c.answers.ensures.account a agrees in
     let same : c.in_ok-answers.answers ≡ listed.0 = grind (arith, listed.1, c.in_ok-answers.ensures.cases) in
     rw c.ok_or.ensures.value
     (bound_found a (answers_of listed.0) listed.2 c.args.number c.find_answer.result
