@@ -24,7 +24,7 @@ use Rattle.table.proofs.Parts.{others_stay}
 use Rattle.table.proofs.Shared.{reordered_refl, reordered_back, named_reordered, numbers_reordered, passed, none_named_at, stands_still}
 use Rattle.table.proofs.Spending.{stands, held_at, kept_at, is_spent, still_ours, spent_gone}
 
-without_none : (n : ℕ) (cs : List Claim) → NoneNamed n cs → without n cs ≡ cs
+pub without_none : (n : ℕ) (cs : List Claim) → NoneNamed n cs → without n cs ≡ cs
 without_none n [] h = refl
 without_none n (c ∷ cs) h = grind (arith, nat_tests, without_none n cs h.1)
 

@@ -37,7 +37,7 @@ hold_of table row = record { table = table; row = row }
 abbrev bears_of : Hold → Bears
 bears_of h = record { table = h.table; row = h.row }
 
-same_numbers : (g h : Hold) → g.table ≡ h.table → g.row ≡ h.row → g ≡ h
+pub same_numbers : (g h : Hold) → g.table ≡ h.table → g.row ≡ h.row → g ≡ h
 same_numbers g h table row = ap (λ n. hold_of n g.row) table ∙ ap (hold_of h.table) row
 
 -- another hold has other numbers
@@ -46,7 +46,7 @@ other_numbers g h other = false_from_ne_true (bears h.table h.row (bears_of g)) 
     let p = and_parts (eqb g.table h.table) (eqb g.row h.row) e in
     other (same_numbers g h (eqb-true g.table h.table p.0) (eqb-true g.row h.row p.1)))
 
-none_has : (n : ℕ) (cs : List Claim) → NoneNamed n cs → has_number n cs ≡ true → ⊥
+pub none_has : (n : ℕ) (cs : List Claim) → NoneNamed n cs → has_number n cs ≡ true → ⊥
 none_has n [] none e = cc
 none_has n (c ∷ cs) none e = grind (arith, nat_tests, none_has n cs none.1)
 
@@ -61,7 +61,7 @@ given : (a : Account) (c : Claim) (h : Hold) → Accepted a c h → unspent h.ta
 given a c h accepted =
     or_left (bears h.table h.row (record { table = a.number; row = number_of c })) (unspent h.table h.row a.holds) (given_bears a c h accepted)
 
-same_holds : (a b : Account) (n : ℕ) (r : Result (Unit {0}) WithdrawRefusal) → Withdraws a n r b → b.holds ≡ a.holds
+pub same_holds : (a b : Account) (n : ℕ) (r : Result (Unit {0}) WithdrawRefusal) → Withdraws a n r b → b.holds ≡ a.holds
 same_holds a b n (Ok u) w = ap (λ (x : Account). x.holds) w.1
 same_holds a b n (Err e) w = ap (λ (x : Account). x.holds) w.1
 

@@ -74,6 +74,13 @@ impl BoundRefusal {
 }
 
 impl<'a, K: Kind + Drop> Table<'a, K> {
+    /// The number of the table, which every hold that it gives bears.
+    pub fn number(&self) -> u8
+        ensures { result ≡ self.now.number }
+    {
+        self.number
+    }
+
     // How many rows the table still has room for.
     pub fn room(&self) -> usize
         ensures { (a : Account) → AgreesWith K.demand a self.now → result + length a.rows ≡ a.room }

@@ -1,0 +1,113 @@
+-- Which rows stand as held after a call. Assumes nothing.
+use Rattle.std.proofs.Common.{◌≡◌, ℕ, Bool, true, false, eqb, not, ◌&&◌, ◌||◌, MatchResult, Ok, Err, Result, sym, refl, ap, ◌∙◌, subst, inl, inr, arith, eqb-true}
+use Rattle.std.proofs.Math.Logic.{∥∥₁_elim, ∥∥₁_map}
+use Rattle.std.specs.Coded.{Coded-set, coded_bool, coded_ℕ}
+use Rattle.std.proofs.lemmas.Bool.Decides.{nat_tests}
+use Rattle.std.proofs.lemmas.Bool.{cases_Bool, both_ways, false_from_ne_true}
+use Rattle.demand.specs.Demand.{Demand}
+use Rattle.analysis.specs.Ranks.{Claim}
+use Rattle.table.specs.declared.Hold.{Hold}
+use Rattle.table.specs.declared.HoldRefusal.{HoldRefusal}
+use Rattle.table.specs.declared.SpendRefusal.{SpendRefusal}
+use Rattle.table.specs.declared.SpendRefusal.TheVariants.{NotHeld}
+use Rattle.table.specs.declared.WithdrawRefusal.{WithdrawRefusal}
+use Rattle.table.specs.declared.Table.{Table}
+use Rattle.table.specs.Account.{Account, Holds, Spends, Withdraws, handed_back, has_number, number_of, spent, unspent}
+use Rattle.table.specs.Accounted.{IsAccounted}
+use Rattle.table.specs.Agreement.{AgreesWith}
+use Rattle.table.specs.Places.{has_held}
+use Rattle.table.proofs.Checks.{is_not_unspent, is_unspent}
+use Rattle.table.proofs.InHand.{Turns, has_held_is, none_has, same_hold, same_holds}
+use Rattle.table.proofs.Parts.{others_stay, unspent_own, unspent_row}
+use Rattle.table.proofs.Shared.{passed}
+use Rattle.table.proofs.Spending.{spent_gone}
+use Rattle.runs.specs.Holds.{GivesHoldOn, HandsBack, SameHeld, SpendsHoldOn}
+
+module _ {K : Type 0} (demand : K → Demand) (t u : Table K) (known : IsAccounted demand t) where
+  -- what follows about numbers and tests from any account of the table before follows
+  number_from : (m n : ℕ) → ((a : Account) → AgreesWith demand a t → m ≡ n) → m ≡ n
+  number_from m n f = ∥∥₁_elim known (Coded-set coded_ℕ _ _) (λ k. f k.account k.agrees)
+
+  test_from : (x y : Bool) → ((a : Account) → AgreesWith demand a t → x ≡ y) → x ≡ y
+  test_from x y f = ∥∥₁_elim known (Coded-set coded_bool _ _) (λ k. f k.account k.agrees)
+
+  module _ (R : Account → Account → Type 0) (turns : Turns demand t u R) (same_number : (a b : Account) → R a b → b.number ≡ a.number) where
+    table_number : u.number ≡ t.number
+    table_number = number_from u.number t.number (λ a agrees.
+        let p = turns a agrees in
+        sym p.2.number_is ∙ same_number a p.0 p.1 ∙ agrees.number_is)
+
+    -- the same holds are unspent
+    pub same_held : ((a b : Account) → R a b → b.holds ≡ a.holds) → SameHeld t u
+    same_held same = record {
+      number = table_number;
+      held = λ n. test_from (has_held u n) (has_held t n) (λ a agrees.
+          let p = turns a agrees in
+          has_held_is u p.2 n
+          ∙ ap (unspent u.number n) (same a p.0 p.1)
+          ∙ ap (λ m. unspent m n a.holds) table_number
+          ∙ sym (has_held_is t agrees n));
+    }
+
+  pub gives : (c : Claim) (r : Result Hold HoldRefusal) → Turns demand t u (λ a b. Holds a c r b) → MatchResult r (GivesHoldOn t u (number_of c)) (λ e. SameHeld t u)
+  gives c (Ok h) turns =
+      let number : u.number ≡ t.number = table_number (λ a b. Holds a c (Ok h) b) turns (λ a b s. ap (λ (x : Account). x.number) s.1) in
+      record {
+        number = number;
+        table = number_from h.table t.number (λ a agrees. (turns a agrees).1.0.table ∙ agrees.number_is);
+        row = number_from h.row (number_of c) (λ a agrees. (turns a agrees).1.0.row);
+        was = test_from (has_held t (number_of c)) false (λ a agrees.
+            let passes = (turns a agrees).1.0.passes in
+            has_held_is t agrees (number_of c)
+            ∙ false_from_ne_true (unspent t.number (number_of c) a.holds) (λ e.
+              none_has (number_of c) a.rows (passed a c passes).number (unspent_row a.number a.rows t.number (number_of c) a.holds agrees.sound.holds e)));
+        held = λ m. test_from (has_held u m) (eqb (number_of c) m || has_held t m) (λ a agrees.
+            let p = turns a agrees in
+            has_held_is u p.2 m
+            ∙ ap (λ (x : Account). unspent u.number m x.holds) p.1.1
+            ∙ more a.number u.number m (unspent u.number m a.holds) (agrees.number_is ∙ sym number)
+            ∙ ap (λ b. eqb (number_of c) m || b) (ap (λ n. unspent n m a.holds) number ∙ sym (has_held_is t agrees m)));
+      }
+    where
+      more : (x y m : ℕ) (b : Bool) → x ≡ y → ((eqb x y && eqb (number_of c) m) || b) ≡ (eqb (number_of c) m || b)
+      more x y m b e = grind (arith, nat_tests)
+  gives c (Err e) turns = same_held (λ a b. Holds a c (Err e) b) turns (λ a b s. ap (λ (x : Account). x.number) s.1) (λ a b s. ap (λ (x : Account). x.holds) s.1)
+
+  -- keep and release, where `after` is the account with the hold spent
+  pub spends : (h : Hold) (after : Account → Account) → ((a : Account) → (after a).number ≡ a.number) → ((a : Account) → (after a).holds ≡ spent h.table h.row a.holds) → (r : Result (Unit {0}) SpendRefusal) → Turns demand t u (λ a b. Spends a h (after a) r b) → MatchResult r (λ _. SpendsHoldOn t u h) (HandsBack t u h)
+  spends h after number_after holds_after (Ok x) turns =
+      let number : u.number ≡ t.number = table_number (λ a b. Spends a h (after a) (Ok x) b) turns (λ a b s. ap (λ (y : Account). y.number) s.1 ∙ number_after a) in
+      record {
+        number = number;
+        held = λ m. test_from (has_held u m) (not (eqb h.row m) && has_held t m) (λ a agrees.
+            let p = turns a agrees in
+            let own : h.table ≡ a.number = unspent_own a.number a.rows h.table h.row a.holds agrees.sound.holds (is_unspent (unspent h.table h.row a.holds) p.1.0) in
+            has_held_is u p.2 m
+            ∙ ap (unspent u.number m) (ap (λ (y : Account). y.holds) p.1.1 ∙ holds_after a)
+            ∙ left a m (own ∙ agrees.number_is ∙ sym number)
+            ∙ ap (λ b. not (eqb h.row m) && b) (ap (λ n. unspent n m a.holds) number ∙ sym (has_held_is t agrees m)));
+      }
+    where
+      left : (a : Account) (m : ℕ) → h.table ≡ u.number → unspent u.number m (spent h.table h.row a.holds) ≡ (not (eqb h.row m) && unspent u.number m a.holds)
+      left a m own = elim (cases_Bool (eqb h.row m)) [
+        | inl e ↦
+            rw e
+            (subst (λ n. unspent u.number n (spent h.table h.row a.holds) ≡ false) (eqb-true h.row m e)
+            (subst (λ n. unspent n h.row (spent h.table h.row a.holds) ≡ false) own (spent_gone h.table h.row a.holds)))
+        | inr e ↦ rw e (others_stay h.table h.row u.number m a.holds (λ q. both_ways (eqb h.row m) e (grind (arith, nat_tests))))
+      ]
+  spends h after number_after holds_after (Err (NotHeld back)) turns = record {
+    same = ap handed_back (same_hold demand t u h after (Err (NotHeld back)) turns known);
+    why = λ ours. test_from (has_held t h.row) false (λ a agrees.
+        has_held_is t agrees h.row
+        ∙ ap (λ n. unspent n h.row a.holds) (sym ours)
+        ∙ is_not_unspent (unspent h.table h.row a.holds) (turns a agrees).1.0);
+    held = same_held (λ a b. Spends a h (after a) (Err (NotHeld back)) b) turns (λ a b s. ap (λ (x : Account). x.number) s.2) (λ a b s. ap (λ (x : Account). x.holds) s.2);
+  }
+
+  same_number_withdrawn : (a b : Account) (n : ℕ) (r : Result (Unit {0}) WithdrawRefusal) → Withdraws a n r b → b.number ≡ a.number
+  same_number_withdrawn a b n (Ok x) w = ap (λ (y : Account). y.number) w.1
+  same_number_withdrawn a b n (Err e) w = ap (λ (y : Account). y.number) w.1
+
+  pub withdraws : (n : ℕ) (r : Result (Unit {0}) WithdrawRefusal) → Turns demand t u (λ a b. Withdraws a n r b) → SameHeld t u
+  withdraws n r turns = same_held (λ a b. Withdraws a n r b) turns (λ a b w. same_number_withdrawn a b n r w) (λ a b w. same_holds a b n r w)

@@ -1,0 +1,81 @@
+-- Calls as data, and which events they are with their replies. Assumes nothing.
+-- How to read it: a call and its reply are values of the code; an event is a call with its answer, as the account has it. `demand` is what values
+-- of the kind K mean, and `table` the number of the table that the calls are made on.
+use Rattle.std.specs.Prelude.{◌≡◌, ℕ, List, [], ◌∷◌, Ok, Err, Result}
+use Rattle.demand.specs.Demand.{Demand}
+use Rattle.analysis.specs.declared.Task.{Task}
+use Rattle.analysis.specs.Ranks.{Claim}
+use Rattle.table.specs.declared.Hold.{Hold as Token}
+use Rattle.table.specs.declared.HoldRefusal.{HoldRefusal}
+use Rattle.table.specs.declared.SpendRefusal.{SpendRefusal}
+use Rattle.table.specs.declared.SpendRefusal.TheVariants.{NotHeld as Back}
+use Rattle.table.specs.Account.{hold_number, withdraw_number, bound_number}
+use Rattle.table.specs.Runs.{Event, holding, keeping, releasing, withdrawing, bounding}
+use Rattle.runs.specs.declared.call.HoldId.{HoldId}
+use Rattle.runs.specs.declared.call.NotHeld.{NotHeld}
+use Rattle.runs.specs.declared.call.Call.{Call}
+use Rattle.runs.specs.declared.call.Call.TheVariants.{Hold as HoldCall, Keep as KeepCall, Release as ReleaseCall, Withdraw as WithdrawCall, Bound as BoundCall}
+use Rattle.runs.specs.declared.call.Way.{Way}
+use Rattle.runs.specs.declared.call.Way.TheVariants.{KeepRow, GiveUp}
+use Rattle.runs.specs.declared.call.Reply.{Reply}
+use Rattle.runs.specs.declared.call.Reply.TheVariants.{Hold, Keep, Release, Withdraw, Bound}
+
+-- the number of a refusal of keep or release
+abbrev pub not_held_number : NotHeld → ℕ
+not_held_number e = 12
+
+-- the number of the refusal that a reply has, 0 where the call was accepted
+abbrev pub reply_number : Reply → ℕ
+reply_number (Hold (Ok u)) = 0
+reply_number (Hold (Err e)) = hold_number e
+reply_number (Keep (Ok u)) = 0
+reply_number (Keep (Err e)) = not_held_number e
+reply_number (Release (Ok u)) = 0
+reply_number (Release (Err e)) = not_held_number e
+reply_number (Withdraw (Ok u)) = 0
+reply_number (Withdraw (Err e)) = withdraw_number e
+reply_number (Bound (Ok p)) = 0
+reply_number (Bound (Err e)) = bound_number e
+
+-- the hold that bears these two numbers
+abbrev pub on_row : ℕ → ℕ → Token
+on_row table n = record { table = table; row = n }
+
+abbrev pub token : HoldId → Token
+token id = on_row id.table id.row
+
+-- a reply to a call of hold, with the hold that an accepted one gives on row n
+abbrev pub given : ℕ → ℕ → Result (Unit {0}) HoldRefusal → Result Token HoldRefusal
+given table n (Ok u) = Ok (on_row table n)
+given table n (Err e) = Err e
+
+-- a reply to a call of keep or release, with the hold that comes back from a refusal
+abbrev pub spent : Token → Result (Unit {0}) NotHeld → Result (Unit {0}) SpendRefusal
+spent h (Ok u) = Ok u
+spent h (Err e) = Err (Back h)
+
+-- a hold was to be spent in one of the two ways, with the answer
+abbrev pub spending : Way → Token → Result (Unit {0}) SpendRefusal → Event
+spending KeepRow h r = keeping h r
+spending GiveUp h r = releasing h r
+
+-- the row of a task, with the meaning of its kind
+abbrev pub claim_of : {K : Type 0} → (K → Demand) → Task K → Claim
+claim_of demand task = record { row = task.row; demand = demand task.kind }
+
+module _ {K : Type 0} (demand : K → Demand) (table : ℕ) where
+  -- the call and its reply are this event; a reply to another call than its own is none
+  abbrev pub IsEvent : Call K → Reply → Event → Type 0
+  IsEvent (HoldCall task) (Hold r) e = e ≡ holding (claim_of demand task) (given table task.row.number r)
+  IsEvent (KeepCall id) (Keep r) e = e ≡ keeping (token id) (spent (token id) r)
+  IsEvent (ReleaseCall id) (Release r) e = e ≡ releasing (token id) (spent (token id) r)
+  IsEvent (WithdrawCall n) (Withdraw r) e = e ≡ withdrawing n r
+  IsEvent (BoundCall n) (Bound r) e = e ≡ bounding n r
+  IsEvent call reply e = ⊥
+
+  -- These calls with these replies, in this order, come after the events es: all are the events then, the last one first.
+  abbrev pub Follow : List (Call K) → List Reply → List Event → List Event → Type 0
+  Follow [] [] es all = all ≡ es
+  Follow [] (r ∷ rs) es all = ⊥
+  Follow (c ∷ cs) [] es all = ⊥
+  Follow (c ∷ cs) (r ∷ rs) es all = (e : Event) × IsEvent c r e × Follow cs rs (e ∷ es) all

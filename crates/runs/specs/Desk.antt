@@ -1,0 +1,42 @@
+-- A desk, and what is promised of the calls that it runs. Assumes nothing.
+-- How to read it: a desk d has a table and the holds in hand. `calls` are run on it, `ran` is what they answered, and es are the calls that its
+-- table had been through before, with their answers, the last one first. `demand` is what values of the kind K mean.
+use Rattle.std.specs.Prelude.{◌≡◌, ◌≢◌, ℕ, List}
+use Rattle.demand.specs.Demand.{Demand}
+use Rattle.demand.specs.declared.Kind.{Ghosts}
+use Rattle.analysis.specs.Judge.{InTime, answers_of, bounds_of, vectors_of}
+use Rattle.table.specs.declared.Hold.{Hold}
+use Rattle.table.specs.declared.Table.{Table}
+use Rattle.table.specs.History.{HasHistory, Promise, rows_at}
+use Rattle.table.specs.Memory.{SameTable}
+use Rattle.table.specs.Runs.{Event}
+use Rattle.runs.specs.declared.call.Call.{Call}
+use Rattle.runs.specs.declared.desk.Desk.{Desk}
+use Rattle.runs.specs.declared.desk.Ran.{Ran}
+use Rattle.runs.specs.Calls.{Follow}
+
+module _ {K : Type 0} {kind : Ghosts K} where
+  -- the table of a desk
+  abbrev pub table_of : Desk K kind → Table K
+  table_of d = d.register.table
+
+  -- the holds in hand
+  abbrev pub holds_of : Desk K kind → List Hold
+  holds_of d = d.holds.items
+
+  -- the table is as it was, and so are the holds in hand
+  pub record SameDesk (d e : Desk K kind) : Type 0 where
+    pub table : SameTable (table_of d) (table_of e)
+    pub holds : holds_of e ≡ holds_of d
+
+-- What is promised of calls that were run on a table which had been through es.
+pub record KeepsPromise {K : Type 0} (demand : K → Demand) (es : List Event) (calls : List (Call K)) (ran : Ran) (t : Table K) : Type 0 where
+  -- all calls with their answers, these after those before
+  pub events : List Event
+  pub follow : Follow demand t.number calls ran.replies.items es events
+  -- the table has been through them, and nothing else
+  pub history : HasHistory demand events t
+  -- the answers at the end are those for all of its rows, highest first
+  pub answers : InTime (rows_at demand t) (answers_of ran.answers)
+  -- and the promise holds of all calls, of the table, and of these bounds and vectors
+  pub promise : ∥ Promise demand events t (bounds_of (answers_of ran.answers)) (vectors_of (answers_of ran.answers)) ∥₁

@@ -1,0 +1,57 @@
+-- Holds in hand, and what a call does to the rows that stand as held. Assumes nothing.
+-- How to read it: t is a table before a call and u the one after it, hs are holds, n is the number of a row.
+use Rattle.std.specs.Prelude.{◌≡◌, ◌≢◌, ℕ, Bool, false, not, ◌&&◌, ◌||◌, ◌==◌, List, All, AllPairs}
+use Rattle.std.specs.List.{list_any}
+use Rattle.table.specs.declared.Hold.{Hold}
+use Rattle.table.specs.declared.SpendRefusal.{SpendRefusal}
+use Rattle.table.specs.declared.Table.{Table}
+use Rattle.table.specs.Account.{handed_back}
+use Rattle.table.specs.Places.{has_held}
+
+-- the hold is on the row with the number n
+abbrev pub is_on : ℕ → Hold → Bool
+is_on n h = h.row == n
+
+-- one of these holds is on the row with the number n
+abbrev pub has_hold : ℕ → List Hold → Bool
+has_hold n hs = list_any (is_on n) hs
+
+-- the hold bears these two numbers
+abbrev pub is_token : ℕ → ℕ → Hold → Bool
+is_token table n h = h.table == table && h.row == n
+
+-- no hold of these bears the number of this table
+abbrev pub IsForeign : ℕ → List Hold → Type 0
+IsForeign table hs = All (λ h. h.table ≢ table) hs
+
+module _ {K : Type 0} where
+  -- These holds are those in hand: each bears the table's number, no two are on one row, and a row stands as held exactly where one is on it.
+  pub record InHand (t : Table K) (hs : List Hold) : Type 0 where
+    pub own : All (λ h. h.table ≡ t.number) hs
+    pub apart : AllPairs (λ g h. g.row ≢ h.row) hs
+    pub exactly : (n : ℕ) → has_held t n ≡ has_hold n hs
+
+  module _ (t u : Table K) where
+    -- the same rows stand as held, at a table of the same number
+    pub record SameHeld : Type 0 where
+      pub number : u.number ≡ t.number
+      pub held : (n : ℕ) → has_held u n ≡ has_held t n
+
+    -- a hold was given on the row n, which was not held before
+    pub record GivesHoldOn (n : ℕ) (h : Hold) : Type 0 where
+      pub number : u.number ≡ t.number
+      pub table : h.table ≡ t.number
+      pub row : h.row ≡ n
+      pub was : has_held t n ≡ false
+      pub held : (m : ℕ) → has_held u m ≡ (n == m || has_held t m)
+
+    -- the hold was spent, and its row is held no more
+    pub record SpendsHoldOn (h : Hold) : Type 0 where
+      pub number : u.number ≡ t.number
+      pub held : (m : ℕ) → has_held u m ≡ (not (h.row == m) && has_held t m)
+
+    -- the hold came back: it is of another table, or its row is not held
+    pub record HandsBack (h : Hold) (e : SpendRefusal) : Type 0 where
+      pub same : handed_back e ≡ h
+      pub why : h.table ≡ t.number → has_held t h.row ≡ false
+      pub held : SameHeld

@@ -1,0 +1,146 @@
+// A table with the holds that it gave, and lists of calls that are run on it.
+ghost use Rattle.std.specs.Prelude.{◌≡◌, ◌≢◌, ℕ, ◌+◌, ◌<◌, ◌≤◌, [], ◌∷◌, ◌++◌, All, Any, IfOk, OnErr, length, map, position, false, MatchResult, MatchOption, slice_index_or, vec_items, ◌↔◌};
+ghost use Rattle.std.specs.Vec.{vec_len, vec_capacity};
+ghost use Rattle.analysis.specs.Judge.{InTime, answers_of};
+ghost use Rattle.table.specs.History.{Continues, HasHistory, rows_at};
+ghost use Rattle.table.specs.Runs.{Event, holding};
+ghost use Rattle.runs.specs.Calls.{claim_of, given, spending, spent, token};
+ghost use Rattle.runs.specs.Holds.{InHand, IsForeign, is_token};
+ghost use Rattle.runs.specs.declared.desk.RunRefusal.TheVariants.{Memory as OutOfMemory};
+
+use super::call::{Call, HoldId, NotHeld, Reply, Way};
+use super::register::Register;
+use analysis::{Answers, Task};
+use demand::Kind;
+use std::alloc::{AllocError, Global};
+use table::{Hold, HoldRefusal, SpendRefusal, Table};
+
+/// A table and the holds that it gave and that are not spent. They are in hand: one on each row that stands as held. A desk
+/// has to be closed, since a hold cannot be let go.
+pub struct Desk<'a, K: Kind> {
+    register: Register<'a, K>,
+    holds: Vec<Hold>,
+    ghost in_hand: { InHand register.table (vec_items holds) },
+}
+
+/// What a list of calls came to.
+#[derive(Drop)]
+pub struct Ran {
+    /// What each call answered, in order.
+    pub replies: Vec<Reply>,
+    /// What `bound` answers for all rows at the end, with their blocking, highest row first.
+    pub answers: Answers,
+}
+
+/// Why a list of calls is not run.
+#[derive(Clone, Copy, PartialEq, Eq, Debug)]
+pub enum RunRefusal {
+    /// A hold that was handed in bears the number of this table.
+    OwnHold,
+    /// There is no memory for the replies or for the holds.
+    Memory,
+}
+
+impl From<AllocError> for RunRefusal {
+    ghost from_gives = { λ _ r. r ≡ OutOfMemory };
+
+    fn from(_: AllocError) -> RunRefusal {
+        RunRefusal::Memory
+    }
+}
+
+impl<'a, K: Kind + Drop> Desk<'a, K> {
+    ghost use Rattle.runs.specs.Desk.{table_of, holds_of};
+
+    /// An empty table over row memory, of which it uses twelve places at most, and no hold. What stood there is let go.
+    pub fn new(heap: Global, number: u8, places: &'a mut [Option<Task<K>>]) -> Desk<'a, K>
+        ensures history { HasHistory K.demand [] (table_of result) }
+        ensures number { (table_of result).number ≡ number }
+    {
+        Desk {
+            register: Register::new(number, places),
+            holds: Vec::new(heap),
+        }
+    }
+
+    /// The table, to be looked at.
+    pub fn table(&self) -> &Table<'a, K>
+        ensures { result.now ≡ table_of self.now }
+    {
+        self.register.table()
+    }
+
+    /// Number, bound, vector and blocking of all rows, highest first.
+    pub fn answers(&self) -> Answers
+        ensures { InTime (rows_at K.demand (table_of self.now)) (answers_of result) }
+    {
+        self.register.answers()
+    }
+
+    // A row is held. The hold comes to hand.
+    fn take_in(&mut self, task: Task<K>) -> Result<(), HoldRefusal>
+        requires { vec_len self.old.holds < vec_capacity self.old.holds }
+        ensures history {
+            Continues K.demand
+                (holding (claim_of K.demand task)
+                    (given (table_of self.old).number task.row.number result))
+                (table_of self.old) (table_of self.new)
+        }
+        ensures number { (table_of self.new).number ≡ (table_of self.old).number }
+        ensures room {
+            (vec_len self.new.holds ≤ vec_len self.old.holds + 1)
+            × (vec_capacity self.new.holds ≡ vec_capacity self.old.holds)
+        }
+    {
+        let hold = self.register.hold(task)?;
+        self.holds.push_reserved(hold);
+        Ok(())
+    }
+
+    // The hold in hand that bears these numbers is spent, if there is one.
+    fn spend_own(&mut self, way: Way, id: HoldId) -> Result<(), NotHeld>
+        requires { id.table ≡ (table_of self.old).number }
+        ensures history {
+            Continues K.demand (spending way (token id) (spent (token id) result))
+                (table_of self.old) (table_of self.new)
+        }
+        ensures number { (table_of self.new).number ≡ (table_of self.old).number }
+        ensures room {
+            (vec_len self.new.holds ≤ vec_len self.old.holds)
+            × (vec_capacity self.new.holds ≡ vec_capacity self.old.holds)
+        }
+    {
+        let place = place_of(&self.holds, id).ok_or(NotHeld)?;
+        let hold = self.holds.remove(place);
+        self.register.spend(way, hold).unwrap();
+        Ok(())
+    }
+
+    // The hold of another table that bears these numbers, if one was handed in, is handed to this table and comes back.
+    fn offer(&mut self, way: Way, id: HoldId, foreign: &mut Vec<Hold>) -> Result<(), NotHeld>
+        requires { id.table ≢ (table_of self.old).number }
+        ensures history {
+            Continues K.demand (spending way (token id) (spent (token id) result))
+                (table_of self.old) (table_of self.new)
+        }
+        ensures number { (table_of self.new).number ≡ (table_of self.old).number }
+        ensures room { self.new.holds ≡ self.old.holds }
+        ensures foreign { vec_items foreign.new ≡ vec_items foreign.old }
+    {
+        if let Some(place) = place_of(foreign, id) {
+            let hold = foreign.remove(place);
+            let SpendRefusal::NotHeld(back) = self.register.spend(way, hold).unwrap_err();
+            foreign.insert(place, back).unwrap();
+        }
+        Err(NotHeld)
+    }
+}
+
+// The place of the hold that bears these numbers.
+fn place_of(holds: &[Hold], id: HoldId) -> Option<usize>
+    ensures { result ≡ position (is_token id.table id.row) holds.now }
+{
+    holds
+        .iter()
+        .position(|hold| hold.table() == id.table && hold.row() == id.row)
+}

@@ -1,0 +1,127 @@
+// A table that only its own calls have changed, with no hold in hand.
+ghost use Rattle.std.specs.Prelude.{◌≡◌, ℕ, [], Ok, IfOk, MatchResult};
+ghost use Rattle.analysis.specs.Judge.{InTime, answers_of};
+ghost use Rattle.table.specs.Account.{Account};
+ghost use Rattle.table.specs.Accounted.{IsAccounted};
+ghost use Rattle.table.specs.Agreement.{AgreesWith};
+ghost use Rattle.table.specs.History.{Continues, HasHistory, rows_at};
+ghost use Rattle.table.specs.Memory.{Emptied};
+ghost use Rattle.table.specs.Runs.{holding, withdrawing};
+ghost use Rattle.runs.specs.Calls.{claim_of, spending};
+ghost use Rattle.runs.specs.Holds.{SameHeld, GivesHoldOn, SpendsHoldOn, HandsBack};
+ghost use Rattle.runs.specs.Passing.{KeepsRow, GivesRowUp};
+
+use super::call::Way;
+use analysis::{Answers, Row, Task};
+use demand::Kind;
+use table::{BoundRefusal, Hold, HoldRefusal, SpendRefusal, Table, WithdrawRefusal};
+
+/// A table that was made empty and that only its own calls have changed. So `keep` and `release` never refuse a hold that it
+/// has just given, and its rows are in time.
+#[derive(Drop)]
+pub struct Register<'a, K: Kind> {
+    pub(crate) table: Table<'a, K>,
+    ghost accounted: { IsAccounted K.demand table },
+}
+
+impl<'a, K: Kind + Drop> Register<'a, K> {
+    /// An empty table over row memory, of which it uses twelve places at most. What stood there is let go.
+    pub fn new(number: u8, places: &'a mut [Option<Task<K>>]) -> Register<'a, K>
+        ensures history { HasHistory K.demand [] result.table }
+        ensures memory { Emptied places.old result.table.places.now }
+        ensures number { result.table.number ≡ number }
+        ensures lent { result.table.places.ghost_name ≡ places.entry.ghost_name }
+    {
+        Register {
+            table: Table::new(number, places),
+        }
+    }
+
+    /// The number of the table.
+    pub fn number(&self) -> u8
+        ensures { result ≡ self.now.table.number }
+    {
+        self.table.number()
+    }
+
+    /// The table, to be looked at.
+    pub fn table(&self) -> &Table<'a, K>
+        ensures { result.now ≡ self.now.table }
+    {
+        &self.table
+    }
+
+    /// Number, bound, vector and blocking of all rows, highest first.
+    pub fn answers(&self) -> Answers
+        ensures { InTime (rows_at K.demand self.now.table) (answers_of result) }
+    {
+        self.table.answers().unwrap()
+    }
+
+    /// Holds a row and at once keeps it. The answers are those of all rows then. A refusal, by the numbers 5 to 11, changes
+    /// nothing.
+    pub fn take_in(&mut self, row: Row, kind: K) -> Result<Answers, HoldRefusal>
+        ensures {
+            (a : Account) → AgreesWith K.demand a self.old.table
+            → (b : Account) × KeepsRow a (record { row = row; demand = K.demand kind }) result b
+            × AgreesWith K.demand b self.new.table
+        }
+    {
+        let (hold, answers) = self.table.hold_answered(row, kind)?;
+        self.table.keep(hold).unwrap();
+        Ok(answers)
+    }
+
+    /// Holds a row and at once gives it up. The answers are those of all rows with it. Nothing is left behind.
+    pub fn try_out(&mut self, row: Row, kind: K) -> Result<Answers, HoldRefusal>
+        ensures {
+            (a : Account) → AgreesWith K.demand a self.old.table
+            → (b : Account) × GivesRowUp a (record { row = row; demand = K.demand kind }) result b
+            × AgreesWith K.demand b self.new.table
+        }
+    {
+        let (hold, answers) = self.table.hold_answered(row, kind)?;
+        self.table.release(hold).unwrap();
+        Ok(answers)
+    }
+
+    /// Holds a row. The hold is the caller's to spend.
+    pub(crate) fn hold(&mut self, task: Task<K>) -> Result<Hold, HoldRefusal>
+        ensures history {
+            Continues K.demand
+                (holding (claim_of K.demand task) result) self.old.table self.new.table
+        }
+        ensures held {
+            MatchResult result (GivesHoldOn self.old.table self.new.table task.row.number)
+                (λ e. SameHeld self.old.table self.new.table)
+        }
+    {
+        self.table.hold(task.row, task.kind)
+    }
+
+    /// Spends a hold, and keeps its row or takes it out.
+    pub(crate) fn spend(&mut self, way: Way, hold: Hold) -> Result<(), SpendRefusal>
+        ensures history {
+            Continues K.demand (spending way hold result) self.old.table self.new.table
+        }
+        ensures held {
+            MatchResult result (λ _. SpendsHoldOn self.old.table self.new.table hold)
+                (HandsBack self.old.table self.new.table hold)
+        }
+    {
+        match way {
+            Way::KeepRow => self.table.keep(hold),
+            Way::GiveUp => self.table.release(hold),
+        }
+    }
+
+    /// Takes a kept row out.
+    pub(crate) fn withdraw(&mut self, number: u32) -> Result<(), WithdrawRefusal>
+        ensures history {
+            Continues K.demand (withdrawing number result) self.old.table self.new.table
+        }
+        ensures held { SameHeld self.old.table self.new.table }
+    {
+        self.table.withdraw(number)
+    }
+}
