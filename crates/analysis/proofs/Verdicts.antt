@@ -1,5 +1,5 @@
 -- What a judgement of ranked rows says of the rows that are judged together. Assumes nothing.
-use Rattle.std.proofs.Common.{◌≡◌, ℕ, ◌≤◌, List, [], ◌∷◌, ◌++◌, map, length, Ok, Err, Option, Result, sym, ap, ◌∙◌, subst, arith}
+use Rattle.std.proofs.Common.{◌≡◌, ℕ, ◌≤◌, List, [], ◌∷◌, ◌++◌, map, length, Ok, Err, Option, Result, sym, ap, ◌∙◌, subst, inr, arith}
 use lib.ListN.{length-map}
 use Rattle.demand.specs.Demand.{Demand, Lawful}
 use Rattle.analysis.specs.declared.Task.{Task}
@@ -7,9 +7,8 @@ use Rattle.analysis.specs.declared.Answer.{Answer}
 use Rattle.analysis.specs.declared.Rank.{Rank}
 use Rattle.analysis.specs.declared.answers.Answers.{Answers}
 use Rattle.analysis.specs.declared.judgement.JudgeRefusal.{JudgeRefusal}
-use Rattle.analysis.specs.declared.judgement.JudgeRefusal.TheVariants.{TooMany, Late}
 use Rattle.analysis.specs.Candidates.{claims, claim_of, RanksAll}
-use Rattle.analysis.specs.Judge.{Answered, LateRow, InTime, SomeLate, RanksJudged, Judged, answers_of}
+use Rattle.analysis.specs.Judge.{Answered, LateRow, InTime, SomeLate, RanksJudged, Judged, judge_late, answers_of}
 use Rattle.analysis.specs.Plans.{LateExactlyWhenNoPlan}
 use Rattle.analysis.specs.Ranks.{Claim, ranked, loads, rows, system}
 use Rattle.analysis.specs.Removal.{RemovalKeepsInTime}
@@ -55,5 +54,4 @@ module _ {K : Type 0} (demand : K → Demand) (lawful : (k : K) → Lawful (dema
     -- what is answered for the ranks is the judgement
     pub verdict : (r : Result Answers JudgeRefusal) → RanksJudged (map (claim_of demand places newcomer) ranks) r → Judged judged r
     verdict (Ok a) answered = in_time (answers_of a) answered
-    verdict (Err TooMany) never = absurd never
-    verdict (Err (Late n)) late = some_late n late
+    verdict (Err e) late = inr (late.0, some_late (judge_late e) late.1)

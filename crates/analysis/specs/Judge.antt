@@ -1,7 +1,7 @@
 -- What is answered for ranked rows. Assumes nothing.
 -- How to read it: cs are rows with the meanings of their kinds, ls ranked rows with their blocking. `Judged` at the end is what `judge` promises;
 -- `RankJudged` and `RanksJudged` are what its steps promise, for one rank and for all of them.
-use Rattle.std.specs.Prelude.{◌≡◌, ℕ, ◌+◌, ◌-◌, ◌^◌, ◌<◌, ◌≤◌, List, length, get_or, take, Some, None, Ok, Err, Option, Result, slice_index_or}
+use Rattle.std.specs.Prelude.{◌≡◌, ℕ, ◌+◌, ◌-◌, ◌^◌, ◌<◌, ◌≤◌, ◌⊎◌, List, length, get_or, take, Some, None, Ok, Err, Option, Result, slice_index_or}
 use Rattle.demand.specs.Demand.{Demand}
 use Rattle.analysis.specs.declared.Answer.{Answer}
 use Rattle.analysis.specs.declared.answers.Answers.{Answers}
@@ -77,14 +77,29 @@ pub record SomeLate (cs : List Claim) (n : ℕ) : Type 0 where
   pub first : LateRow (loads (ranked cs)) n
   pub no_plan : NoPlan (system_of cs)
 
+-- the number of a refusal: there is no place for so many rows, or some row is late
+abbrev pub judge_number : JudgeRefusal → ℕ
+judge_number TooMany = 10
+judge_number (Late n) = 11
+
+-- the late row that a refusal names, else 0
+abbrev pub judge_late : JudgeRefusal → ℕ
+judge_late TooMany = 0
+judge_late (Late n) = n
+
+-- Rows are refused by number 10, which names none of them, where they are more than twelve; else by number 11, which
+-- names the first late one.
+abbrev pub JudgementRefused : List Claim → ℕ → ℕ → Type 0
+JudgementRefused cs number late =
+    ((number ≡ 10) × (late ≡ 0) × (12 < length cs))
+    ⊎ ((number ≡ 11) × SomeLate cs late)
+
 -- what is answered for ranked rows, of which there are never too many
 abbrev pub RanksJudged : List Claim → Result Answers JudgeRefusal → Type 0
 RanksJudged cs (Ok a) = Answered (loads cs) (answers_of a)
-RanksJudged cs (Err TooMany) = ⊥
-RanksJudged cs (Err (Late n)) = LateRow (loads cs) n
+RanksJudged cs (Err e) = (judge_number e ≡ 11) × LateRow (loads cs) (judge_late e)
 
 -- what the judgement of these rows is
 abbrev pub Judged : List Claim → Result Answers JudgeRefusal → Type 0
 Judged cs (Ok a) = InTime cs (answers_of a)
-Judged cs (Err TooMany) = 12 < length cs
-Judged cs (Err (Late n)) = SomeLate cs n
+Judged cs (Err e) = JudgementRefused cs (judge_number e) (judge_late e)

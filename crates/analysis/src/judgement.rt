@@ -1,7 +1,7 @@
 // Whether a set of tasks meets its deadlines.
 ghost use Rattle.std.specs.Prelude.{◌≡◌, ◌+◌, ◌^◌, ◌≤◌, map, length};
 ghost use Rattle.analysis.specs.Candidates.{claim_of, claims, kind_demand};
-ghost use Rattle.analysis.specs.Judge.{RankJudged, RanksJudged, Judged};
+ghost use Rattle.analysis.specs.Judge.{RankJudged, judge_number, RanksJudged, Judged};
 ghost use Rattle.analysis.specs.Plans.{LateExactlyWhenNoPlan};
 ghost use Rattle.analysis.specs.Ranks.{ranked, system_of, AnyOrder, HighestFirst};
 ghost use Rattle.analysis.specs.Removal.{RemovalKeepsInTime};
@@ -79,6 +79,18 @@ pub enum JudgeRefusal {
     TooMany,
     // some row is late; the number is that of the first one
     Late(u32),
+}
+
+impl JudgeRefusal {
+    /// 10 for too many rows and 11 for a late one, as a table numbers these two.
+    pub fn number(self) -> u32
+        ensures { result ≡ judge_number self }
+    {
+        match self {
+            JudgeRefusal::TooMany => 10,
+            JudgeRefusal::Late(_) => 11,
+        }
+    }
 }
 
 // Judges the tasks at the places and the newcomer, if any, together.

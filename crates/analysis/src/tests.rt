@@ -83,6 +83,8 @@ fn thirteen_rows_are_too_many(rt: HostRuntime) {
         judge(&places, &places[0]).err(),
         Some(JudgeRefusal::TooMany)
     );
+    let late = JudgeRefusal::Late(3);
+    assert_eq!(rt; [JudgeRefusal::TooMany.number(), late.number()], [10, 11]);
 }
 
 // Rows 1 and 3 use lock 0, and row 2 alone uses lock 5. No row uses the others.

@@ -1,17 +1,15 @@
 -- How a hold is refused or accepted. Assumes nothing.
-use Rattle.std.proofs.Common.{◌≡◌, ℕ, ◌<◌, ◌≤◌, Bool, true, false, cond, leb, List, [], ◌∷◌, ◌++◌, length, is_some, not, None, Some, Err, Option, sym, refl, ap, ◌∙◌, arith, ne_eqb}
+use Rattle.std.proofs.Common.{◌≡◌, ◌==◌, ℕ, ◌<◌, ◌≤◌, Bool, true, false, cond, leb, List, [], ◌∷◌, ◌++◌, length, is_some, not, None, Some, Option, inl, inr, sym, refl, ap, ◌∙◌, arith, ne_eqb}
 use Rattle.std.proofs.lemmas.Bool.{cond_both}
 use Rattle.demand.specs.Demand.{Demand}
 use Rattle.analysis.specs.declared.Task.{Task}
-use Rattle.analysis.specs.declared.judgement.JudgeRefusal.{JudgeRefusal}
-use Rattle.analysis.specs.declared.judgement.JudgeRefusal.TheVariants.{TooMany, Late as JudgedLate}
 use Rattle.analysis.specs.Candidates.{claims}
 use Rattle.demand.specs.Refusals.{first}
-use Rattle.analysis.specs.Judge.{Judged, LateRow}
-use Rattle.analysis.specs.Ranks.{Claim, ranked, loads}
+use Rattle.analysis.specs.Judge.{JudgementRefused}
+use Rattle.analysis.specs.Ranks.{Claim}
 use Rattle.table.specs.declared.HoldRefusal.{HoldRefusal}
-use Rattle.table.specs.declared.HoldRefusal.TheVariants.{NoPlace, Late}
-use Rattle.table.specs.Account.{Account, row_checks, hold_checks, hold_number, Refused, as_refusal}
+use Rattle.table.specs.declared.HoldRefusal.TheVariants.{NoPlace}
+use Rattle.table.specs.Account.{Account, row_checks, hold_checks, hold_number, hold_late, Refused}
 use Rattle.table.specs.Agreement.{AgreesWith}
 use Rattle.table.specs.declared.State.TheVariants.{Free}
 use Rattle.table.specs.declared.Table.{Table}
@@ -64,9 +62,6 @@ module _ (a : Account) (c : Claim) where
   pub passes : first (row_checks a c) ≡ 0 → leb a.room (length a.rows) ≡ false → first (hold_checks a c) ≡ 0
   passes z e = behind z false e
 
-  pub refused_late : (n : ℕ) → first (hold_checks a c) ≡ 0 → LateRow (loads (ranked (c ∷ a.rows))) n → Refused a c (Late n)
-  refused_late n z l = record { by_number = z; late = λ q. l }
-
 module _ {K : Type 0} {demand : K → Demand} {a : Account} (t : Table K) (agrees : AgreesWith demand a t) (c : Claim) (early : 0 ≡ first (row_checks a c)) (r : Option ℕ) (place : PlaceWhere t (λ s. s ≡ Free) r) where
   -- so it is refused where no place was found
   pub no_place_found : r ≡ None → Refused a c NoPlace
@@ -76,8 +71,11 @@ module _ {K : Type 0} {demand : K → Demand} {a : Account} (t : Table K) (agree
   pub place_found : (p : ℕ) → r ≡ Some p → first (hold_checks a c) ≡ 0
   place_found p some = passes a c (sym early) (place_free t agrees r place ∙ ap (λ o. not (is_some o)) some)
 
--- a newcomer that is judged to be late
-pub refused_judged : {K : Type 0} {demand : K → Demand} {a : Account} (t : Table K) → AgreesWith demand a t → (u : Task K) → first (hold_checks a (record { row = u.row; demand = demand u.kind })) ≡ 0 → (j : JudgeRefusal) → Judged (claims demand (tasks t) (Some u)) (Err j) → Refused a (record { row = u.row; demand = demand u.kind }) (as_refusal j)
-refused_judged t agrees u z TooMany judged = absurd (never_too_many t agrees u z judged)
-refused_judged {demand = demand} {a = a} t agrees u z (JudgedLate n) judged =
-    refused_late a (record { row = u.row; demand = demand u.kind }) n z (newcomer_late t agrees u z n judged)
+-- a refusal that says of a newcomer what its judgement says is the account's
+pub refused_judged : {K : Type 0} {demand : K → Demand} {a : Account} (t : Table K) → AgreesWith demand a t → (u : Task K) → first (hold_checks a (record { row = u.row; demand = demand u.kind })) ≡ 0 → (e : HoldRefusal) → JudgementRefused (claims demand (tasks t) (Some u)) (hold_number e) (hold_late e) → Refused a (record { row = u.row; demand = demand u.kind }) e
+refused_judged t agrees u z e (inl many) = absurd (never_too_many t agrees u z many.2)
+refused_judged t agrees u z e (inr some) =
+    record {
+      by_number = z ∙ sym (ap (λ n. cond (n == 11) 0 n) some.0);
+      late = λ _. newcomer_late t agrees u z (hold_late e) some.1;
+    }

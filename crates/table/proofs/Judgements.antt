@@ -20,9 +20,8 @@ use Rattle.table.specs.Agreement.{AgreesWith}
 use Rattle.table.specs.Places.{answer_of}
 use Rattle.analysis.specs.declared.answers.Answers.{Answers}
 use Rattle.analysis.specs.declared.judgement.JudgeRefusal.{JudgeRefusal}
-use Rattle.analysis.specs.declared.judgement.JudgeRefusal.TheVariants.{TooMany, Late}
 use Rattle.table.specs.History.{rows_at}
-use Rattle.analysis.specs.Judge.{Judged, InTime, LateRow, Answered, answers_of, no_answer, bounds_of, vectors_of}
+use Rattle.analysis.specs.Judge.{judge_number, judge_late, JudgementRefused, Judged, InTime, LateRow, SomeLate, Answered, answers_of, no_answer, bounds_of, vectors_of}
 use Rattle.analysis.proofs.AnyOrder.{any_order}
 use Rattle.analysis.proofs.Order.{to_front, highest_first}
 use Rattle.analysis.proofs.Ranked.{claims_append, length_ranked}
@@ -94,8 +93,8 @@ module _ {K : Type 0} {demand : K → Demand} {a : Account} (t : Table K) (agree
       ((passed a (claim_of_task u) passes).priority, agrees.sound.priorities)
 
   -- a newcomer that passes the checks is late or in time with the account's rows as with the table's
-  pub newcomer_late : (u : Task K) → first (hold_checks a (claim_of_task u)) ≡ 0 → (n : ℕ) → Judged (claims demand (tasks t) (Some u)) (Err (Late n)) → LateRow (loads (ranked (claim_of_task u ∷ a.rows))) n
-  newcomer_late u passes n judged = subst (λ (cs : List Claim). LateRow (loads cs) n) (newcomer_ranked u passes) judged.first
+  pub newcomer_late : (u : Task K) → first (hold_checks a (claim_of_task u)) ≡ 0 → (n : ℕ) → SomeLate (claims demand (tasks t) (Some u)) n → LateRow (loads (ranked (claim_of_task u ∷ a.rows))) n
+  newcomer_late u passes n late = subst (λ (cs : List Claim). LateRow (loads cs) n) (newcomer_ranked u passes) late.first
 
   pub newcomer_in_time : (u : Task K) → first (hold_checks a (claim_of_task u)) ≡ 0 → (answers : Answers) → Judged (claims demand (tasks t) (Some u)) (Ok answers) → AllInTime (claim_of_task u ∷ a.rows)
   newcomer_in_time u passes answers judged =
@@ -112,29 +111,30 @@ module _ {K : Type 0} {demand : K → Demand} {a : Account} (t : Table K) (agree
   newcomer_listed u passes answers judged = subst (λ (cs : List Claim). Answered (loads cs) (answers_of answers)) (newcomer_ranked u passes) judged.answered
 
   -- twelve rows at most
-  pub never_too_many : (u : Task K) → first (hold_checks a (claim_of_task u)) ≡ 0 → Judged (claims demand (tasks t) (Some u)) (Err TooMany) → ⊥
-  never_too_many u passes judged =
+  pub never_too_many : (u : Task K) → first (hold_checks a (claim_of_task u)) ≡ 0 → 12 < length (claims demand (tasks t) (Some u)) → ⊥
+  never_too_many u passes many =
       let room = (passed a (claim_of_task u) passes).room in
       let few = agrees.room_is in
       let count = length_reordered (newcomer_reordered u) in
       omega arith
 
   -- the account's rows are in time, so they are never refused
-  pub never_refused : (e : JudgeRefusal) → Judged (claims demand (tasks t) None) (Err e) → ⊥
-  never_refused TooMany judged =
+  pub never_refused : (number late : ℕ) → JudgementRefused (claims demand (tasks t) None) number late → ⊥
+  never_refused number late (inl many) =
+      let over = many.2 in
       let count = length_reordered rows_reordered in
       let few = claims_at_most demand (tasks t) in
       let all = length_reordered agrees.rows_are in
       let twelve = length-take 12 t.places.now in
       omega arith
-  never_refused (Late n) judged =
+  never_refused number late (inr some) =
       has_plan a.rows agrees.sound.lawful agrees.sound.in_time
-      (subst (λ (cs : List Claim). NoPlan (system (loads cs))) same_ranked judged.no_plan)
+      (subst (λ (cs : List Claim). NoPlan (system (loads cs))) same_ranked some.1.no_plan)
 
   -- all rows are answered
   pub all_listed : (r : Result Answers JudgeRefusal) → Judged (claims demand (tasks t) None) r → (all : Answers) × (r ≡ Ok all) × Answered (loads (ranked a.rows)) (answers_of all)
   all_listed (Ok all) judged = (all, refl, subst (λ (cs : List Claim). Answered (loads cs) (answers_of all)) same_ranked judged.answered)
-  all_listed (Err e) judged = absurd (never_refused e judged)
+  all_listed (Err e) judged = absurd (never_refused (judge_number e) (judge_late e) judged)
 
 -- what is found among the answers for all rows is what the account answers
 module _ (a : Account) (answers : List Answer) (ranks : Answered (loads (ranked a.rows)) answers) (n : ℕ) where

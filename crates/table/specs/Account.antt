@@ -4,8 +4,6 @@
 -- A check is a pair, whether it applies and its number; `first` is the number of the first that applies, and 0 where none does.
 use Rattle.std.specs.Prelude.{◌≡◌, ℕ, ◌<◌, Bool, true, false, cond, not, ◌&&◌, ◌||◌, List, [], ◌∷◌, ◌++◌, length, Ok, Err, Result, ◌==◌, nat_le, nat_lt}
 use Rattle.demand.specs.Refusals.{first}
-use Rattle.analysis.specs.declared.judgement.JudgeRefusal.{JudgeRefusal}
-use Rattle.analysis.specs.declared.judgement.JudgeRefusal.TheVariants.{TooMany, Late as JudgedLate}
 use Rattle.analysis.specs.declared.answers.Answers.{Answers}
 use Rattle.analysis.specs.Judge.{Answered, LateRow, answers_of}
 use Rattle.analysis.specs.Plans.{Bounds}
@@ -120,11 +118,6 @@ withdraw_number NotKept = 14
 -- the number of a refusal of bound
 abbrev pub bound_number : BoundRefusal → ℕ
 bound_number BoundNoSuchRow = 13
-
--- what a judgement that goes against a newcomer is as a refusal
-abbrev pub as_refusal : JudgeRefusal → HoldRefusal
-as_refusal TooMany = NoPlace
-as_refusal (JudgedLate n) = Late n
 
 -- all rows have bounds
 pub record AllInTime (cs : List Claim) : Type 0 where

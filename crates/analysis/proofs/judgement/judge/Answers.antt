@@ -1,4 +1,4 @@
-use Rattle.std.proofs.Common.{sym, subst}
+use Rattle.std.proofs.Common.{sym, subst, inl}
 use Rattle.analysis.specs.Candidates.{RanksAll}
 use Rattle.std.proofs.lemmas.Result.{err_from_is_err_and}
 use Rattle.analysis.proofs.AnyOrder.{any_order}
@@ -11,7 +11,7 @@ returns-in_err-ranks g c =
     let newcomer = c.args.newcomer.now in
     let p = err_from_is_err_and c.from_residual.result c.from_residual.ensures.1 in
     record {
-      judged = rw (p.1, p.2, c.in_err-ranks.ensures.0) c.in_err-ranks.ensures.1;
+      judged = rw (p.1, p.2) (inl c.in_err-ranks.ensures);
       late_exactly_when_no_plan = verdicts.late_exactly_when_no_plan g.K.Kind.demand g.met.K.Kind.lawful c.args.places.now newcomer;
       removal_keeps_in_time = verdicts.removal g.K.Kind.demand g.met.K.Kind.lawful c.args.places.now newcomer;
       any_order = any_order _;

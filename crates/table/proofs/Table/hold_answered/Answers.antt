@@ -7,10 +7,10 @@ use Rattle.table.specs.declared.Table.{Table}
 use Rattle.table.specs.Account.{Account, HoldsAnswered, hold_part}
 use Rattle.table.specs.Agreement.{AgreesWith}
 use Rattle.table.specs.History.{Continues}
-use Rattle.std.proofs.Common.{◌≡◌, None, Some, Ok, Err, sym, refl, ap, ◌∙◌, subst, arith, rules}
+use Rattle.std.proofs.Common.{◌≡◌, None, Some, Ok, Err, sym, refl, ap, ◌∙◌, subst, subst₂, arith, rules}
 use Rattle.std.proofs.lemmas.Result.{err_from_is_err_and}
 use Rattle.analysis.specs.Candidates.{claims}
-use Rattle.analysis.specs.Judge.{Judged}
+use Rattle.analysis.specs.Judge.{JudgementRefused, Judged}
 use Rattle.analysis.specs.Ranks.{Claim}
 use Rattle.analysis.specs.declared.Task.{Task}
 use Rattle.table.specs.declared.HoldRefusal.TheVariants.{NoPlace}
@@ -19,6 +19,7 @@ use Rattle.table.specs.Account.{hold_number, with_row}
 use Rattle.table.specs.Places.{At}
 use Rattle.table.proofs.Changes.{row_in}
 use Rattle.table.proofs.Holding.{refused_early, no_place_found, place_found, refused_judged}
+use Rattle.table.proofs.Lookups.{tasks}
 use Rattle.table.proofs.Judgements.{newcomer_in_time, newcomer_listed}
 use Rattle.table.proofs.Histories.{continues}
 use Rattle.table.specs.Runs.{holding}
@@ -47,7 +48,8 @@ returns-in_err-answers-clause-account g c a agrees =
     let some : c.place_in.result ≡ Some c.in_ok-place.place = grind (arith, c.in_ok-place.ensures.value) in
     let pass = place_found c.args.self.now agrees claim (c.in_ok-check_row.ensures a agrees) c.place_in.result c.place_in.ensures c.in_ok-place.place some in
     let judged = subst (λ os. Judged (claims g.K.Kind.demand os (Some task)) (Err c.in_err-answers.field-0.0)) c.used.ensures c.in_err-answers.ensures.judged in
-    (a, rw (e.1, e.2) (refused_judged c.args.self.now agrees task pass c.in_err-answers.field-0.0 judged, refl), agrees)
+    let refused = subst₂ (JudgementRefused (claims g.K.Kind.demand (tasks c.args.self.now) (Some task))) (sym e.2.0) (sym e.2.1) judged in
+    (a, rw e.1 (refused_judged c.args.self.now agrees task pass e.0 refused, refl), agrees)
 
 pub returns-clause-account : goal.returns-clause-account
 returns-clause-account g c a agrees =

@@ -1,4 +1,4 @@
-use Rattle.std.proofs.Common.{◌≡◌, ℕ, ◌+◌, List, map, length, get_or, drop, None, Option, Some, subst, subst₂, sym, ap, ◌∙◌, arith}
+use Rattle.std.proofs.Common.{◌≡◌, ℕ, ◌+◌, List, map, length, get_or, drop, None, Option, Some, subst, subst₂, sym, refl, ap, ◌∙◌, arith}
 use Rattle.std.proofs.lemmas.List.{take_rest}
 use Rattle.std.proofs.lemmas.Result.{err_from_is_err_and}
 use Rattle.analysis.specs.declared.Answer.{Answer}
@@ -26,9 +26,12 @@ returns-in_err-answer g c =
     let judged = subst (λ (o : Option (Answer × Higher g.row.K.Denot)). RankJudged g.K.Kind.demand self.places.now self.newcomer.now c.loop-k.higher.items (get_or rs k no_rank) c.blocking_of-blocking.result o) none c.judge_rank.ensures in
     let p = err_from_is_err_and c.from_residual.result c.from_residual.ensures.1 in
     rw (p.1, p.2, why) (
-      k,
-      first_late g.K.Kind.demand self.places.now self.newcomer.now rs k c.loop-k-test.true c.blocking_of-blocking.result blocked (answers_of c.loop-k.answers) c.loop-k.higher.items c.loop-k.invariant.1 judged,
-      late_number g.K.Kind.demand self.places.now self.newcomer.now rs k c.loop-k-test.true c.blocking_of-blocking.result blocked (answers_of c.loop-k.answers) c.loop-k.higher.items c.loop-k.invariant.1,
+      refl,
+      (
+        k,
+        first_late g.K.Kind.demand self.places.now self.newcomer.now rs k c.loop-k-test.true c.blocking_of-blocking.result blocked (answers_of c.loop-k.answers) c.loop-k.higher.items c.loop-k.invariant.1 judged,
+        late_number g.K.Kind.demand self.places.now self.newcomer.now rs k c.loop-k-test.true c.blocking_of-blocking.result blocked (answers_of c.loop-k.answers) c.loop-k.higher.items c.loop-k.invariant.1,
+      ),
     )
 
 pub loop-k-preserved : goal.loop-k-preserved
