@@ -409,6 +409,7 @@ fn numbers_of_fields(rt: HostRuntime) {
     assert_eq!(rt; read_number(b"4294967295"), Ok(u32::MAX));
     assert_eq!(rt; read_number(b"4294967296"), Err(FieldFault::NotNumber));
     assert_eq!(rt; read_number(b""), Err(FieldFault::NotNumber));
+    assert_eq!(rt; FieldFault::NotNumber.number(), 16);
 }
 
 // What each fault says, at once and by one call for each number.
