@@ -1,8 +1,8 @@
 // Bad input, input at its limits, and a worked example of each public call of `planfile`, run on the code.
 use demand::KindRefusal;
 use planfile::{
-    Blame, Fault, FieldFault, LONGEST_FILE, LineFault, REPORT_MEMORY, answer, load,
-    plan_figures_hold, read_number, write_refusal,
+    Blame, Fault, FieldFault, LONGEST_FILE, LineFault, REPORT_MEMORY, answer, load, read_number,
+    worked_figures_hold, write_refusal,
 };
 use std::alloc::{AllocError, Global};
 use std::process::Abort;
@@ -434,6 +434,6 @@ fn faults(rt: HostRuntime) {
 
 // The answer is `true` always; what is proved is the contract.
 #[test]
-fn figures_hold(rt: HostRuntime) {
-    assert!(rt; plan_figures_hold());
+fn worked_figures(rt: HostRuntime) {
+    assert!(rt; worked_figures_hold());
 }
