@@ -9,7 +9,6 @@ pub mod Unique
 pub mod Members
 pub mod Promise
 pub mod Holding
-pub mod Worked
 pub mod AfterRun
 pub mod InHand
 pub mod Emptying

@@ -5,4 +5,3 @@ pub mod Agreement
 pub mod Accounted
 pub mod Places
 pub mod Memory
-pub mod Figures
