@@ -1,8 +1,8 @@
 // Bad input, input at its limits, and a worked example of each public call of `planfile`, run on the code.
 use demand::KindRefusal;
 use planfile::{
-    Blame, Fault, FieldFault, LONGEST_FILE, LineFault, REPORT_MEMORY, answer, load,
-    plan_figures_hold, read_number, write_refusal,
+    Blame, Fault, FieldFault, LONGEST_FILE, LineFault, REPORT_MEMORY, answer, load, read_number,
+    worked_figures_hold, write_refusal,
 };
 use std::alloc::{AllocError, Global};
 use std::process::Abort;
@@ -409,6 +409,7 @@ fn numbers_of_fields(rt: HostRuntime) {
     assert_eq!(rt; read_number(b"4294967295"), Ok(u32::MAX));
     assert_eq!(rt; read_number(b"4294967296"), Err(FieldFault::NotNumber));
     assert_eq!(rt; read_number(b""), Err(FieldFault::NotNumber));
+    assert_eq!(rt; FieldFault::NotNumber.number(), 16);
 }
 
 // What each fault says, at once and by one call for each number.
@@ -433,6 +434,6 @@ fn faults(rt: HostRuntime) {
 
 // The answer is `true` always; what is proved is the contract.
 #[test]
-fn figures_hold(rt: HostRuntime) {
-    assert!(rt; plan_figures_hold());
+fn worked_figures(rt: HostRuntime) {
+    assert!(rt; worked_figures_hold());
 }

@@ -17,4 +17,7 @@ pub mod Words
 pub mod Reporting
 pub mod Answering
 pub mod Loads
-pub mod PlanFigures
+pub mod GarageRows
+pub mod GarageCalls
+pub mod GarageFile
+pub mod WorkedFigures

@@ -1,5 +1,5 @@
 -- Numbers that are read, and numbers that are written. Assumes nothing.
-use Rattle.std.proofs.Common.{◌≡◌, ℕ, ◌+◌, ◌-◌, ◌*◌, ◌^◌, ◌<◌, ◌≤◌, true, false, ltb, leb, ◌⊎◌, Option, Some, None, List, [], ◌∷◌, ◌++◌, map, length, get_or, take, drop, Bor, IfOk, Ok, Err, decimal, Result, sym, refl, ap, ◌∙◌, subst, inl, inr, arith, rules, MatchOption, MatchResult}
+use Rattle.std.proofs.Common.{◌≡◌, ℕ, suc, ◌+◌, ◌-◌, ◌*◌, ◌^◌, ◌<◌, ◌≤◌, Bool, true, false, not, ltb, leb, ◌⊎◌, Option, Some, None, List, [], ◌∷◌, ◌++◌, map, length, get_or, take, drop, Bor, IfOk, Ok, Err, decimal, Result, sym, refl, ap, ◌∙◌, subst, inl, inr, arith, rules, MatchOption}
 use Rattle.std.specs.Iterator.{YieldsThen}
 use Rattle.std.specs.List.{FoldsTo}
 use Rattle.std.proofs.lemmas.Fmt.{decimal-digits_value, digits_value-decimal, digits_decimal, decimal_nonempty}
@@ -7,10 +7,12 @@ use Rattle.std.proofs.lemmas.Iterator.{YieldsList}
 use Rattle.std.proofs.lemmas.Iterator.Consumers.{YieldsList-so_far, YieldsList-turn, YieldsList-end}
 use Rattle.std.proofs.lemmas.List.{take-append-drop, take_all, drop_more}
 use Rattle.std.proofs.lemmas.Str.Parse.{IsNumeralModel, numerals_by_fold}
-use Rattle.std.proofs.lemmas.Bool.{both_ways, and_from, and_left, and_right, and_parts, le-ltb, lt-leb, ltb-true, leb-true, lt-ltb, le-leb}
+use Rattle.std.proofs.lemmas.Bool.{and_from, and_left, and_right, and_parts, le-ltb, lt-leb, ltb-true, leb-true, lt-ltb, le-leb}
 use Rattle.std.specs.Option.{ok_or}
+use Rattle.demand.specs.Refusals.{first}
 use Rattle.planfile.specs.declared.fault.FieldFault.{FieldFault}
 use Rattle.planfile.specs.declared.fault.FieldFault.TheVariants.{NotNumber}
+use Rattle.planfile.specs.Checks.{field_checks, NumberRead}
 use Rattle.planfile.specs.Text.{is_digit, all_digits, value_after, value, is_number}
 
 -- the words of a plan file's numbers are those of digits in base ten
@@ -73,19 +75,28 @@ module _ (n : ℕ) (f : List ℕ) (k a : ℕ) (digits : all_digits (take k f) �
 pub number_from : (f : List ℕ) → 0 < length f → all_digits f ≡ true → value f ≤ 4_294_967_295 → is_number f ≡ true
 number_from f some digits small = and_from _ _ (lt-ltb 0 (length f) some) (and_from _ _ digits (le-leb _ _ small))
 
--- what reading answers for a field
-abbrev pub Read : List ℕ → Result ℕ FieldFault → Type 0
-Read f r = MatchResult r (λ n. (is_number f ≡ true) × (n ≡ value f)) (λ _. is_number f ≡ false)
+-- a field that is no number has the fault of one
+not_read : (f : List ℕ) → is_number f ≡ false → NumberRead f (Err NotNumber)
+not_read f e = rw e refl
+
+passes : (b : Bool) (n : ℕ) → first ((not b, suc n) ∷ []) ≡ 0 → b ≡ true
+passes true n e = refl
+passes false n e = absurd (omega arith)
+
+-- where no check applies, the field is a number
+is_read : (f : List ℕ) → first (field_checks f) ≡ 0 → is_number f ≡ true
+is_read f e = passes (is_number f) 15 e
 
 -- an empty field is no number
-pub empty_read : (f : List ℕ) → length f ≡ 0 → Read f (Err NotNumber)
-empty_read f e = and_left _ _ (le-ltb 0 (length f) (omega arith))
+pub empty_read : (f : List ℕ) → length f ≡ 0 → NumberRead f (Err NotNumber)
+empty_read f e = not_read f (and_left _ _ (le-ltb 0 (length f) (omega arith)))
 
 -- where a field has a byte, what pushing its bytes answers is what reading answers
-pub pushed_read : (f : List ℕ) (o : Option ℕ) (r : Result ℕ FieldFault) → 0 < length f → Pushed 0 f o → r ≡ ok_or o NotNumber → Read f r
-pushed_read f None r some (inl other) e = rw e (and_right (ltb 0 (length f)) _ (and_left _ _ other))
-pushed_read f None r some (inr large) e = rw e (and_right (ltb 0 (length f)) _ (and_right (all_digits f) _ (lt-leb _ _ (omega arith))))
-pushed_read f (Some m) r some (digits, is, fits) e = rw e (number_from f some digits (omega arith), is)
+pub pushed_read : (f : List ℕ) (o : Option ℕ) (r : Result ℕ FieldFault) → 0 < length f → Pushed 0 f o → r ≡ ok_or o NotNumber → NumberRead f r
+pushed_read f None r some (inl other) e = rw e (not_read f (and_right (ltb 0 (length f)) _ (and_left _ _ other)))
+pushed_read f None r some (inr large) e =
+    rw e (not_read f (and_right (ltb 0 (length f)) _ (and_right (all_digits f) _ (lt-leb _ _ (omega arith)))))
+pushed_read f (Some m) r some (digits, is, fits) e = rw e (rw (number_from f some digits (omega arith)) refl, is)
 
 number_parts : (f : List ℕ) → is_number f ≡ true → (0 < length f) × (all_digits f ≡ true) × (value f ≤ 4_294_967_295)
 number_parts f e =
@@ -102,16 +113,16 @@ pub written_value : (f : List ℕ) (n : ℕ) → f ≡ decimal n → n < 2 ^ 32 
 written_value f n e small = (ap value e ∙ digits_value-decimal own n (omega arith), ap all_digits e ∙ digits_decimal own n (omega arith))
 
 -- what is written of a number reads back as it
-pub reads_written : (f : List ℕ) (r : Result ℕ FieldFault) → Read f r → (n : ℕ) → n < 2 ^ 32 → f ≡ decimal n → r ≡ Ok n
+pub reads_written : (f : List ℕ) (r : Result ℕ FieldFault) → NumberRead f r → (n : ℕ) → n < 2 ^ 32 → f ≡ decimal n → r ≡ Ok n
 reads_written f (Ok m) (p, q) n small e = ap Ok (q ∙ (written_value f n e small).0)
 reads_written f (Err x) p n small e =
     let it = written_value f n e small in
     let some : 0 < length f = subst (λ bs. 0 < length bs) (sym e) (some_digit n small) in
-    absurd (both_ways (is_number f) p (number_from f some it.1 (omega (arith, it.0))))
+    absurd (grind (arith, p, number_from f some it.1 (omega (arith, it.0))))
 
 -- a number without leading zeros is what is written of its value
-pub writes_read : (f : List ℕ) (r : Result ℕ FieldFault) → Read f r → IfOk r (λ n. (get_or f 0 0 ≡ 48 → length f ≡ 1) → decimal n ≡ f)
+pub writes_read : (f : List ℕ) (r : Result ℕ FieldFault) → NumberRead f r → IfOk r (λ n. (get_or f 0 0 ≡ 48 → length f ≡ 1) → decimal n ≡ f)
 writes_read f (Ok m) (p, q) =
-    λ plain. let parts = number_parts f p in
+    λ plain. let parts = number_parts f (is_read f p) in
     ap decimal q ∙ decimal-digits_value own f parts.1 parts.0 plain (omega arith)
 writes_read f (Err x) p = tt

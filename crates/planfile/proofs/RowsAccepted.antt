@@ -36,7 +36,7 @@ all_of [] = none
 all_of (x ∷ xs) = keep refl (all_of xs)
 
 -- the kinds of entries are lawful
-lawful_onto : (clock : Factor) (rows : List Claim) (es : List Entry) → LawfulRows rows → LawfulRows (claims_onto clock rows es)
+pub lawful_onto : (clock : Factor) (rows : List Claim) (es : List Entry) → LawfulRows rows → LawfulRows (claims_onto clock rows es)
 lawful_onto clock rows [] h = h
 lawful_onto clock rows (e ∷ es) h = lawful_onto clock (claim_of clock e ∷ rows) es (claim_lawful clock e, h)
 

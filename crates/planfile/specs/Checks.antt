@@ -14,13 +14,14 @@ use Rattle.demand.specs.declared.jitter.Delayed.{Delayed}
 use Rattle.demand.specs.declared.pattern.Heavy.{Heavy as HeavyKind}
 use Rattle.demand.specs.declared.periodic.Every.{Every as EveryKind}
 use Rattle.demand.specs.declared.speed.Slowed.{Slowed}
-use Rattle.demand.specs.Refusals.{every_checks, heavy_checks, delayed_checks, slowed_checks}
+use Rattle.demand.specs.Refusals.{first, every_checks, heavy_checks, delayed_checks, slowed_checks}
 use Rattle.planfile.specs.declared.word.Word.{Word}
 use Rattle.planfile.specs.declared.word.Word.TheVariants.{Clock, Row as RowWord, Every, Heavy, Other}
 use Rattle.demand.specs.declared.speed.Factor.{Factor}
+use Rattle.planfile.specs.declared.fault.FieldFault.{FieldFault}
 use Rattle.planfile.specs.declared.fault.LineFault.{LineFault}
 use Rattle.planfile.specs.declared.fault.Blame.{Blame}
-use Rattle.planfile.specs.Fault.{nothing, by, by_field, first_blame, line_blame}
+use Rattle.planfile.specs.Fault.{nothing, by, by_field, first_blame, field_number, line_blame}
 use Rattle.planfile.specs.Text.{field, word_of, is_number, value}
 
 -- the word is the one that begins a clock line
@@ -47,10 +48,23 @@ fields_due Every = 18
 fields_due Heavy = 20
 fields_due Other = 0
 
+-- When a field is refused as a number.
+abbrev pub field_checks : List ℕ → List (Bool × ℕ)
+field_checks f = (not (is_number f), 16) ∷ []
+
+-- What reading a field answers: its value where no check applies, else a fault with the number of the one that does.
+abbrev pub NumberRead : List ℕ → Result ℕ FieldFault → Type 0
+NumberRead f (Ok n) = (first (field_checks f) ≡ 0) × (n ≡ value f)
+NumberRead f (Err e) = first (field_checks f) ≡ field_number e
+
+-- checks that blame field k
+abbrev pub blaming : ℕ → List (Bool × ℕ) → List (Bool × Blame)
+blaming k = map (λ check. (check.0, by_field check.1 k))
+
 -- the n fields from field k on are numbers, leftmost first
 abbrev pub number_checks : List (List ℕ) → ℕ → ℕ → List (Bool × Blame)
 number_checks fs k zero = []
-number_checks fs k (suc n) = (not (is_number (field k fs)), by_field 16 k) ∷ number_checks fs (k + 1) n
+number_checks fs k (suc n) = blaming k (field_checks (field k fs)) ++ number_checks fs (k + 1) n
 
 -- the number in field k
 abbrev pub number_in : List (List ℕ) → ℕ → ℕ

@@ -6,8 +6,14 @@ use Rattle.table.specs.Account.{hold_number, hold_late}
 use Rattle.planfile.specs.declared.fault.Blame.{Blame}
 use Rattle.planfile.specs.declared.fault.Fault.{Fault}
 use Rattle.planfile.specs.declared.fault.Fault.TheVariants.{ReportMemory, File, Line}
+use Rattle.planfile.specs.declared.fault.FieldFault.{FieldFault}
+use Rattle.planfile.specs.declared.fault.FieldFault.TheVariants.{NotNumber}
 use Rattle.planfile.specs.declared.fault.LineFault.{LineFault}
 use Rattle.planfile.specs.declared.fault.LineFault.TheVariants.{Word, Count, Number, Kind, Hold}
+
+-- the number of what is wrong with a field
+abbrev pub field_number : FieldFault → ℕ
+field_number NotNumber = 16
 
 -- no check applies
 abbrev pub nothing : Blame

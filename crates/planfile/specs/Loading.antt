@@ -5,9 +5,8 @@ use Rattle.analysis.specs.declared.Answer.{Answer}
 use Rattle.analysis.specs.Judge.{InTime}
 use Rattle.analysis.specs.Ranks.{Claim}
 use Rattle.planfile.specs.declared.fault.Fault.{Fault}
-use Rattle.planfile.specs.declared.fault.Fault.TheVariants.{ReportMemory}
 use Rattle.planfile.specs.declared.fault.Blame.{Blame}
-use Rattle.planfile.specs.Fault.{blame}
+use Rattle.planfile.specs.Fault.{by, blame}
 use Rattle.planfile.specs.Reading.{FileRead}
 use Rattle.planfile.specs.Report.{report, refusal_line, WrittenAt, Wrote}
 
@@ -32,4 +31,4 @@ abbrev pub AnsweredText : List ℕ → List ℕ → Result ℕ Fault → List �
 AnsweredText text before (Ok n) after =
     (512 ≤ length before)
     × (Reported text before n after ⊎ ((b : Blame) × FileRead text (length before) (Err b) × Wrote before 0 (refusal_line b) n after))
-AnsweredText text before (Err f) after = (length before < 512) × (f ≡ ReportMemory) × (after ≡ before)
+AnsweredText text before (Err f) after = (length before < 512) × (blame f ≡ by 19) × (after ≡ before)

@@ -4,8 +4,8 @@ use Rattle.std.specs.Prelude.{◌≡◌, ℕ, ◌+◌, ◌<◌, ◌≤◌, List,
 use Rattle.analysis.specs.declared.Answer.{Answer}
 use Rattle.arrayvec.specs.ArrayString.{ArrayString, array_string_len}
 use Rattle.planfile.specs.declared.fault.Fault.{Fault}
-use Rattle.planfile.specs.declared.fault.Fault.TheVariants.{ReportMemory}
 use Rattle.planfile.specs.declared.fault.Blame.{Blame}
+use Rattle.planfile.specs.Fault.{by, blame}
 use Rattle.planfile.specs.Text.{tab, newline}
 
 -- a tab, and the digits of a number without leading zeros
@@ -55,4 +55,4 @@ pub record Wrote (before : List ℕ) (at : ℕ) (text : List ℕ) (r : ℕ) (aft
 -- stands at its start.
 abbrev pub RefusalWritten : Blame → List ℕ → Result ℕ Fault → List ℕ → Type 0
 RefusalWritten b before (Ok n) after = (512 ≤ length before) × Wrote before 0 (refusal_line b) n after
-RefusalWritten b before (Err f) after = (length before < 512) × (f ≡ ReportMemory) × (after ≡ before)
+RefusalWritten b before (Err f) after = (length before < 512) × (blame f ≡ by 19) × (after ≡ before)

@@ -1,17 +1,26 @@
 // What is wrong with a plan file, by layers: a field, a line, the file.
 ghost use Rattle.std.specs.Prelude.{◌≡◌};
 ghost use Rattle.table.specs.Account.{hold_late};
-ghost use Rattle.planfile.specs.Fault.{by, blame, line_blame};
+ghost use Rattle.planfile.specs.Fault.{field_number, by, blame, line_blame};
 ghost use Rattle.planfile.specs.declared.fault.LineFault.TheVariants.{Kind as OfKind, Hold as OfHold};
 
 use demand::KindRefusal;
 use table::HoldRefusal;
 
-// What is wrong with a field.
+// What is wrong with a field, by the number of the check that applies.
 #[derive(Clone, Copy, PartialEq, Eq, Debug)]
 pub enum FieldFault {
     // it is empty, or has other bytes than digits, or is above 4,294,967,295
-    NotNumber,
+    NotNumber = 16,
+}
+
+impl FieldFault {
+    /// The number of the check.
+    pub fn number(self) -> u32
+        ensures { result ≡ field_number self }
+    {
+        self as u32
+    }
 }
 
 // What is wrong with a line. A field is named by its number, from 1.

@@ -2,7 +2,7 @@
 #![tactic(auto)]
 
 ghost use Rattle.std.specs.Prelude.{◌≡◌, true};
-ghost use Rattle.planfile.specs.Figures.{PlanFigures};
+ghost use Rattle.planfile.specs.Figures.{WorkedFigures};
 
 mod fault;
 mod loading;
@@ -23,11 +23,11 @@ pub const LONGEST_FILE: usize = 4096;
 // The bytes of memory that a report is lent. Every report fits.
 pub const REPORT_MEMORY: usize = 512;
 
-// The figures of a plan file of three rows follow from the definitions. The answer is always `true`: a law is proved where a
-// function ensures it.
-#[tactic(auto, using(crate::proofs::PlanFigures::plan_figures))]
-pub fn plan_figures_hold() -> bool
-    ensures { (result ≡ true) × (PlanFigures) }
+// The figures worked out by hand follow from the definitions: of the kinds, of a plan file of three rows, and of calls with
+// its rows. The answer is always `true`: a law is proved where a function ensures it.
+#[tactic(auto, using(crate::proofs::WorkedFigures::worked_figures))]
+pub fn worked_figures_hold() -> bool
+    ensures { (result ≡ true) × (WorkedFigures) }
 {
     true
 }

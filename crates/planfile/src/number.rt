@@ -1,6 +1,7 @@
 // Numbers of a plan file: digits in base ten.
-ghost use Rattle.std.specs.Prelude.{◌≡◌, ℕ, ◌+◌, ◌-◌, ◌*◌, ◌^◌, ◌<◌, ◌≤◌, ◌⊎◌, true, false, length, IfOk, Ok, decimal, MatchOption, MatchResult, slice_index};
-ghost use Rattle.planfile.specs.Text.{all_digits, is_digit, is_number, value, value_after};
+ghost use Rattle.std.specs.Prelude.{◌≡◌, ℕ, ◌+◌, ◌-◌, ◌*◌, ◌^◌, ◌<◌, ◌≤◌, ◌⊎◌, true, false, length, IfOk, Ok, decimal, MatchOption, slice_index};
+ghost use Rattle.planfile.specs.Checks.{NumberRead};
+ghost use Rattle.planfile.specs.Text.{all_digits, is_digit, value_after};
 
 use super::FieldFault;
 
@@ -26,7 +27,7 @@ fn push_digits(number: u32, digits: &[u8]) -> Option<u32>
 // The number that a field writes.
 #[tactic(auto, using(crate::proofs::Numbers::empty_read, crate::proofs::Numbers::pushed_read, crate::proofs::Numbers::some_digit, crate::proofs::Numbers::written_value, crate::proofs::Numbers::writes_read))]
 pub fn read_number(field: &[u8]) -> Result<u32, FieldFault>
-    ensures value { MatchResult result (λ n. (is_number field.now ≡ true) × (n ≡ value field.now)) (λ _. is_number field.now ≡ false) }
+    ensures value { NumberRead field.now result }
     ensures inverse { (n : ℕ) → n < 2 ^ 32 → field.now ≡ decimal n → result ≡ Ok n }
     ensures canonical { IfOk result (λ n. (slice_index field.now 0 ≡ 48 → length field.now ≡ 1) → decimal n ≡ field.now) }
 {

@@ -10,7 +10,6 @@ pub mod Unique
 pub mod Members
 pub mod Promise
 pub mod Holding
-pub mod Worked
 pub mod Histories
 pub mod InHand
 pub mod Emptying

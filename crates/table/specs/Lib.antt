@@ -6,4 +6,3 @@ pub mod History
 pub mod Accounted
 pub mod Places
 pub mod Memory
-pub mod Figures

@@ -1,9 +1,6 @@
 // A table that rows enter and leave: a start request holds a row first, and keeps or releases it later.
 #![tactic(auto)]
 
-ghost use Rattle.std.specs.Prelude.{◌≡◌, true};
-ghost use Rattle.table.specs.Figures.{WorkedFigures};
-
 mod calls;
 mod lookup;
 #[cfg(test)]
@@ -80,13 +77,4 @@ pub enum WithdrawRefusal {
 pub enum BoundRefusal {
     // no row of the table has the number
     NoSuchRow,
-}
-
-// The figures worked out by hand follow from the definitions. The answer is always `true`: a law is proved where a function
-// ensures it.
-#[tactic(auto, using(crate::proofs::Worked::worked_figures))]
-pub fn worked_figures_hold() -> bool
-    ensures { (result ≡ true) × (WorkedFigures) }
-{
-    true
 }

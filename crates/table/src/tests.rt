@@ -194,9 +194,3 @@ fn a_hold_of_another_table(rt: HostRuntime) {
     });
     assert_eq!(rt; (spent, refused), (Ok(()), Some(12)));
 }
-
-// The answer is `true` always; what is proved is the contract.
-#[test]
-fn figures_hold(rt: HostRuntime) {
-    assert!(rt; worked_figures_hold());
-}
