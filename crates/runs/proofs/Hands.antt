@@ -1,5 +1,5 @@
 -- Holds that come to hand, stay and go. Assumes nothing.
-use Rattle.std.proofs.Common.{◌≡◌, ◌≢◌, ℕ, zero, suc, ◌+◌, ◌<◌, Bool, true, false, eqb, not, ◌&&◌, ◌||◌, List, [], ◌∷◌, ◌++◌, length, get_or, take, drop, None, Some, Option, Ok, Err, IsOk, MatchResult, Result, sym, refl, ap, ◌∙◌, subst, inl, inr, arith, eqb-true}
+use Rattle.std.proofs.Common.{◌≡◌, ◌≢◌, ℕ, zero, suc, ◌+◌, ◌<◌, Bool, true, false, eqb, not, ◌&&◌, ◌||◌, List, [], ◌∷◌, ◌++◌, length, get_or, take, drop, None, Some, Option, Ok, Err, IsErr, IsOk, MatchResult, Result, sym, refl, ap, ◌∙◌, subst, inl, inr, arith, eqb-true}
 use Rattle.std.specs.List.{All, AllPairs, list_any, insert, position, position_from, remove}
 use Rattle.std.proofs.lemmas.Iterator.Adapters.{position_from-zero}
 use Rattle.std.proofs.lemmas.Bool.Decides.{nat_tests}
@@ -15,7 +15,7 @@ use Rattle.table.proofs.InHand.{has_held_is, keep_refused, release_refused}
 use Rattle.table.proofs.Spending.{not_ours}
 use Rattle.table.specs.declared.SpendRefusal.{SpendRefusal}
 use Rattle.table.specs.declared.SpendRefusal.TheVariants.{NotHeld}
-use Rattle.table.specs.Account.{Account, unspent}
+use Rattle.table.specs.Account.{Account, handed_back, unspent}
 use Rattle.table.specs.Agreement.{AgreesWith}
 use Rattle.runs.specs.declared.call.Way.{Way}
 use Rattle.runs.specs.declared.call.Way.TheVariants.{KeepRow, GiveUp}
@@ -144,6 +144,24 @@ module _ {K : Type 0} (demand : K → Demand) (t : Table K) (way : Way) where
 
   pub of_another : (h : Hold) → h.table ≢ t.number → Continues demand (spending way h (Err (NotHeld h))) t t
   of_another h other = back_again h (λ a agrees. not_ours t agrees h other)
+
+-- a hold of another table comes back
+module _ {K : Type 0} (t u : Table K) (h : Hold) (other : h.table ≢ t.number) where
+  pub handed_back_surely : (r : Result (Unit {0}) SpendRefusal) → MatchResult r (λ _. SpendsHoldOn t u h) (HandsBack t u h) → IsErr r
+  handed_back_surely (Ok x) m = absurd (other m.table)
+  handed_back_surely (Err e) m = refl
+
+  pub same_then : (r : Result (Unit {0}) SpendRefusal) → MatchResult r (λ _. SpendsHoldOn t u h) (HandsBack t u h) → SameHeld t u
+  same_then (Ok x) m = absurd (other m.table)
+  same_then (Err e) m = m.held
+
+-- what comes back is what was passed
+pub back_is : (h : Hold) (e : SpendRefusal) → handed_back e ≡ h → e ≡ NotHeld h
+back_is h (NotHeld back) same = ap NotHeld same
+
+pub refused_with : {K : Type 0} (t u : Table K) (h : Hold) (r : Result (Unit {0}) SpendRefusal) (e : SpendRefusal) → MatchResult r (λ _. SpendsHoldOn t u h) (HandsBack t u h) → r ≡ Err e → r ≡ Err (NotHeld h)
+refused_with t u h (Ok x) e m is = cc
+refused_with t u h (Err d) e m is = ap Err (back_is h d m.same)
 
 -- a hold that is put back where it was
 pub put_back : {A : Type 0} (xs : List A) (i : ℕ) (x : A) → i < length xs → x ≡ get_or xs i x → insert (remove xs i) i x ≡ xs

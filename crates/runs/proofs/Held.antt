@@ -5,6 +5,7 @@ use Rattle.std.specs.Coded.{Coded-set, coded_bool, coded_ℕ}
 use Rattle.std.proofs.lemmas.Bool.Decides.{nat_tests}
 use Rattle.std.proofs.lemmas.Bool.{cases_Bool, both_ways, false_from_ne_true}
 use Rattle.demand.specs.Demand.{Demand}
+use Rattle.demand.specs.Refusals.{first}
 use Rattle.analysis.specs.Ranks.{Claim}
 use Rattle.table.specs.declared.Hold.{Hold}
 use Rattle.table.specs.declared.HoldRefusal.{HoldRefusal}
@@ -12,7 +13,7 @@ use Rattle.table.specs.declared.SpendRefusal.{SpendRefusal}
 use Rattle.table.specs.declared.SpendRefusal.TheVariants.{NotHeld}
 use Rattle.table.specs.declared.WithdrawRefusal.{WithdrawRefusal}
 use Rattle.table.specs.declared.Table.{Table}
-use Rattle.table.specs.Account.{Account, Holds, Spends, Withdraws, handed_back, has_number, number_of, spent, unspent}
+use Rattle.table.specs.Account.{Account, Holds, Spends, Withdraws, handed_back, has_number, number_of, spend_checks, spent, unspent}
 use Rattle.table.specs.Accounted.{IsAccounted}
 use Rattle.table.specs.Agreement.{AgreesWith}
 use Rattle.table.specs.Places.{has_held}
@@ -60,7 +61,7 @@ module _ {K : Type 0} (demand : K → Demand) (t u : Table K) (known : IsAccount
             let passes = (turns a agrees).1.0.passes in
             has_held_is t agrees (number_of c)
             ∙ false_from_ne_true (unspent t.number (number_of c) a.holds) (λ e.
-              none_has (number_of c) a.rows (passed a c passes).number (unspent_row a.number a.rows t.number (number_of c) a.holds agrees.sound.holds e)));
+            none_has (number_of c) a.rows (passed a c passes).number (unspent_row a.number a.rows t.number (number_of c) a.holds agrees.sound.holds e)));
         held = λ m. test_from (has_held u m) (eqb (number_of c) m || has_held t m) (λ a agrees.
             let p = turns a agrees in
             has_held_is u p.2 m
@@ -79,15 +80,24 @@ module _ {K : Type 0} (demand : K → Demand) (t u : Table K) (known : IsAccount
       let number : u.number ≡ t.number = table_number (λ a b. Spends a h (after a) (Ok x) b) turns (λ a b s. ap (λ (y : Account). y.number) s.1 ∙ number_after a) in
       record {
         number = number;
+        table = number_from h.table t.number (λ a agrees. owned a agrees (turns a agrees).1.0 ∙ agrees.number_is);
+        was = test_from (has_held t h.row) true (λ a agrees.
+            let passes = (turns a agrees).1.0 in
+            has_held_is t agrees h.row
+            ∙ ap (λ n. unspent n h.row a.holds) (sym (owned a agrees passes ∙ agrees.number_is))
+            ∙ is_unspent (unspent h.table h.row a.holds) passes);
         held = λ m. test_from (has_held u m) (not (eqb h.row m) && has_held t m) (λ a agrees.
             let p = turns a agrees in
-            let own : h.table ≡ a.number = unspent_own a.number a.rows h.table h.row a.holds agrees.sound.holds (is_unspent (unspent h.table h.row a.holds) p.1.0) in
+            let own : h.table ≡ a.number = owned a agrees p.1.0 in
             has_held_is u p.2 m
             ∙ ap (unspent u.number m) (ap (λ (y : Account). y.holds) p.1.1 ∙ holds_after a)
             ∙ left a m (own ∙ agrees.number_is ∙ sym number)
             ∙ ap (λ b. not (eqb h.row m) && b) (ap (λ n. unspent n m a.holds) number ∙ sym (has_held_is t agrees m)));
       }
     where
+      owned : (a : Account) → AgreesWith demand a t → first (spend_checks a h) ≡ 0 → h.table ≡ a.number
+      owned a agrees passes = unspent_own a.number a.rows h.table h.row a.holds agrees.sound.holds (is_unspent (unspent h.table h.row a.holds) passes)
+
       left : (a : Account) (m : ℕ) → h.table ≡ u.number → unspent u.number m (spent h.table h.row a.holds) ≡ (not (eqb h.row m) && unspent u.number m a.holds)
       left a m own = elim (cases_Bool (eqb h.row m)) [
         | inl e ↦

@@ -1,6 +1,6 @@
 -- Holds in hand, and what a call does to the rows that stand as held. Assumes nothing.
 -- How to read it: t is a table before a call and u the one after it, hs are holds, n is the number of a row.
-use Rattle.std.specs.Prelude.{◌≡◌, ◌≢◌, ℕ, Bool, false, not, ◌&&◌, ◌||◌, ◌==◌, List, All, AllPairs}
+use Rattle.std.specs.Prelude.{◌≡◌, ◌≢◌, ℕ, Bool, true, false, not, ◌&&◌, ◌||◌, ◌==◌, List, All, AllPairs}
 use Rattle.std.specs.List.{list_any}
 use Rattle.table.specs.declared.Hold.{Hold}
 use Rattle.table.specs.declared.SpendRefusal.{SpendRefusal}
@@ -45,9 +45,11 @@ module _ {K : Type 0} where
       pub was : has_held t n ≡ false
       pub held : (m : ℕ) → has_held u m ≡ (n == m || has_held t m)
 
-    -- the hold was spent, and its row is held no more
+    -- the hold was spent, which bears the table's number and whose row was held, and its row is held no more
     pub record SpendsHoldOn (h : Hold) : Type 0 where
       pub number : u.number ≡ t.number
+      pub table : h.table ≡ t.number
+      pub was : has_held t h.row ≡ true
       pub held : (m : ℕ) → has_held u m ≡ (not (h.row == m) && has_held t m)
 
     -- the hold came back: it is of another table, or its row is not held

@@ -80,17 +80,13 @@ impl<'a, K: Kind + Drop> Desk<'a, K> {
     // A row is held. The hold comes to hand.
     fn take_in(&mut self, task: Task<K>) -> Result<(), HoldRefusal>
         requires { vec_len self.old.holds < vec_capacity self.old.holds }
-        ensures history {
-            Continues K.demand
-                (holding (claim_of K.demand task)
-                    (given (table_of self.old).number task.row.number result))
-                (table_of self.old) (table_of self.new)
-        }
+        ensures history { Continues K.demand
+            (holding (claim_of K.demand task)
+            (given (table_of self.old).number task.row.number result))
+            (table_of self.old) (table_of self.new) }
         ensures number { (table_of self.new).number ≡ (table_of self.old).number }
-        ensures room {
-            (vec_len self.new.holds ≤ vec_len self.old.holds + 1)
-            × (vec_capacity self.new.holds ≡ vec_capacity self.old.holds)
-        }
+        ensures room { (vec_len self.new.holds ≤ vec_len self.old.holds + 1)
+            × (vec_capacity self.new.holds ≡ vec_capacity self.old.holds) }
     {
         let hold = self.register.hold(task)?;
         self.holds.push_reserved(hold);
@@ -100,15 +96,11 @@ impl<'a, K: Kind + Drop> Desk<'a, K> {
     // The hold in hand that bears these numbers is spent, if there is one.
     fn spend_own(&mut self, way: Way, id: HoldId) -> Result<(), NotHeld>
         requires { id.table ≡ (table_of self.old).number }
-        ensures history {
-            Continues K.demand (spending way (token id) (spent (token id) result))
-                (table_of self.old) (table_of self.new)
-        }
+        ensures history { Continues K.demand (spending way (token id) (spent (token id) result))
+            (table_of self.old) (table_of self.new) }
         ensures number { (table_of self.new).number ≡ (table_of self.old).number }
-        ensures room {
-            (vec_len self.new.holds ≤ vec_len self.old.holds)
-            × (vec_capacity self.new.holds ≡ vec_capacity self.old.holds)
-        }
+        ensures room { (vec_len self.new.holds ≤ vec_len self.old.holds)
+            × (vec_capacity self.new.holds ≡ vec_capacity self.old.holds) }
     {
         let place = place_of(&self.holds, id).ok_or(NotHeld)?;
         let hold = self.holds.remove(place);
@@ -119,10 +111,8 @@ impl<'a, K: Kind + Drop> Desk<'a, K> {
     // The hold of another table that bears these numbers, if one was handed in, is handed to this table and comes back.
     fn offer(&mut self, way: Way, id: HoldId, foreign: &mut Vec<Hold>) -> Result<(), NotHeld>
         requires { id.table ≢ (table_of self.old).number }
-        ensures history {
-            Continues K.demand (spending way (token id) (spent (token id) result))
-                (table_of self.old) (table_of self.new)
-        }
+        ensures history { Continues K.demand (spending way (token id) (spent (token id) result))
+            (table_of self.old) (table_of self.new) }
         ensures number { (table_of self.new).number ≡ (table_of self.old).number }
         ensures room { self.new.holds ≡ self.old.holds }
         ensures foreign { vec_items foreign.new ≡ vec_items foreign.old }

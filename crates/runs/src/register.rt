@@ -61,11 +61,9 @@ impl<'a, K: Kind + Drop> Register<'a, K> {
     /// Holds a row and at once keeps it. The answers are those of all rows then. A refusal, by the numbers 5 to 11, changes
     /// nothing.
     pub fn take_in(&mut self, row: Row, kind: K) -> Result<Answers, HoldRefusal>
-        ensures {
-            (a : Account) → AgreesWith K.demand a self.old.table
+        ensures { (a : Account) → AgreesWith K.demand a self.old.table
             → (b : Account) × KeepsRow a (record { row = row; demand = K.demand kind }) result b
-            × AgreesWith K.demand b self.new.table
-        }
+            × AgreesWith K.demand b self.new.table }
     {
         let (hold, answers) = self.table.hold_answered(row, kind)?;
         self.table.keep(hold).unwrap();
@@ -74,11 +72,9 @@ impl<'a, K: Kind + Drop> Register<'a, K> {
 
     /// Holds a row and at once gives it up. The answers are those of all rows with it. Nothing is left behind.
     pub fn try_out(&mut self, row: Row, kind: K) -> Result<Answers, HoldRefusal>
-        ensures {
-            (a : Account) → AgreesWith K.demand a self.old.table
+        ensures { (a : Account) → AgreesWith K.demand a self.old.table
             → (b : Account) × GivesRowUp a (record { row = row; demand = K.demand kind }) result b
-            × AgreesWith K.demand b self.new.table
-        }
+            × AgreesWith K.demand b self.new.table }
     {
         let (hold, answers) = self.table.hold_answered(row, kind)?;
         self.table.release(hold).unwrap();
@@ -87,27 +83,19 @@ impl<'a, K: Kind + Drop> Register<'a, K> {
 
     /// Holds a row. The hold is the caller's to spend.
     pub(crate) fn hold(&mut self, task: Task<K>) -> Result<Hold, HoldRefusal>
-        ensures history {
-            Continues K.demand
-                (holding (claim_of K.demand task) result) self.old.table self.new.table
-        }
-        ensures held {
-            MatchResult result (GivesHoldOn self.old.table self.new.table task.row.number)
-                (λ e. SameHeld self.old.table self.new.table)
-        }
+        ensures history { Continues K.demand
+            (holding (claim_of K.demand task) result) self.old.table self.new.table }
+        ensures held { MatchResult result (GivesHoldOn self.old.table self.new.table task.row.number)
+            (λ e. SameHeld self.old.table self.new.table) }
     {
         self.table.hold(task.row, task.kind)
     }
 
     /// Spends a hold, and keeps its row or takes it out.
     pub(crate) fn spend(&mut self, way: Way, hold: Hold) -> Result<(), SpendRefusal>
-        ensures history {
-            Continues K.demand (spending way hold result) self.old.table self.new.table
-        }
-        ensures held {
-            MatchResult result (λ _. SpendsHoldOn self.old.table self.new.table hold)
-                (HandsBack self.old.table self.new.table hold)
-        }
+        ensures history { Continues K.demand (spending way hold result) self.old.table self.new.table }
+        ensures held { MatchResult result (λ _. SpendsHoldOn self.old.table self.new.table hold)
+            (HandsBack self.old.table self.new.table hold) }
     {
         match way {
             Way::KeepRow => self.table.keep(hold),
@@ -117,9 +105,7 @@ impl<'a, K: Kind + Drop> Register<'a, K> {
 
     /// Takes a kept row out.
     pub(crate) fn withdraw(&mut self, number: u32) -> Result<(), WithdrawRefusal>
-        ensures history {
-            Continues K.demand (withdrawing number result) self.old.table self.new.table
-        }
+        ensures history { Continues K.demand (withdrawing number result) self.old.table self.new.table }
         ensures held { SameHeld self.old.table self.new.table }
     {
         self.table.withdraw(number)

@@ -1,26 +1,25 @@
-use Rattle.std.proofs.Common.{rules, ◌≡◌, ◌≢◌, ℕ, ◌+◌, ◌<◌, ◌≤◌, [], ◌∷◌, ◌++◌, All, Any, IfOk, OnErr, length, map, position, false, MatchResult, MatchOption, slice_index_or, vec_items, ◌↔◌, ◌-◌, ◌*◌, ◌/◌, ◌%◌, Bool, true, nat_eq, nat_lt, List, slice_set, bit_and, bit_or, Fits, w8, w32, w64, Bor, MutBor}
-use Rattle.std.specs.Vec.{vec_len, vec_capacity}
-use Rattle.analysis.specs.Judge.{InTime, answers_of}
-use Rattle.table.specs.History.{Continues, HasHistory, rows_at}
-use Rattle.table.specs.Runs.{Event, holding}
-use Rattle.runs.specs.Calls.{claim_of, given, spending, spent, token}
-use Rattle.runs.specs.Holds.{InHand, IsForeign, is_token}
-use Rattle.runs.specs.declared.desk.RunRefusal.TheVariants.{Memory as OutOfMemory}
-use Rattle.runs.specs.Desk.{table_of, holds_of}
+use Rattle.std.proofs.Common.{◌≡◌, ◌≢◌, sym, ap, ◌∙◌}
+use Rattle.table.specs.declared.Hold.{Hold}
+use Rattle.table.proofs.InHand.{same_numbers}
+use Rattle.runs.specs.Calls.{token}
+use Rattle.runs.proofs.Hands.{found_there, handed_back_surely, of_another, refused_with, same_in_hand, same_then}
 use Rattle.runs.proofs.desk.Desk.offer.Goals as goal
 
--- src/desk.rt:132:47
 pub invariant_of-self : goal.invariant_of-self
-invariant_of-self g c = ?
+invariant_of-self g c =
+    let there = found_there c.args.id.table c.args.id.row c.args.foreign.now.items c.deref.result.now c.place_of.result c.deref.ensures.value c.place_of.ensures c.in-Some.place c.remove-hold.result c.in-Some.is c.remove-hold.ensures.value in
+    record { in_hand = same_in_hand c.args.self.now.register.table c.spend.new.self.table c.args.self.now.holds.items c.args.self.now.in_hand (same_then c.args.self.now.register.table c.spend.new.self.table c.remove-hold.result (λ e. c.requires (sym there.1 ∙ e)) c.spend.result c.spend.ensures.held) }
 
--- src/desk.rt:132:47
 pub unwrap_err-requires : goal.unwrap_err-requires
-unwrap_err-requires g c = ?
+unwrap_err-requires g c =
+    let there = found_there c.args.id.table c.args.id.row c.args.foreign.now.items c.deref.result.now c.place_of.result c.deref.ensures.value c.place_of.ensures c.in-Some.place c.remove-hold.result c.in-Some.is c.remove-hold.ensures.value in
+    handed_back_surely c.args.self.now.register.table c.spend.new.self.table c.remove-hold.result (λ e. c.requires (sym there.1 ∙ e)) c.spend.result c.spend.ensures.held
 
--- src/desk.rt:120:5
 pub returns-in-Some-clause-history : goal.returns-in-Some-clause-history
-returns-in-Some-clause-history g c = ?
+returns-in-Some-clause-history g c =
+    let there = found_there c.args.id.table c.args.id.row c.args.foreign.now.items c.deref.result.now c.place_of.result c.deref.ensures.value c.place_of.ensures c.in-Some.place c.remove-hold.result c.in-Some.is c.remove-hold.ensures.value in
+    let is = same_numbers c.remove-hold.result (token c.args.id) there.1 there.2 in
+    rw (← is, ← refused_with c.args.self.now.register.table c.spend.new.self.table c.remove-hold.result c.spend.result c.unwrap_err.result c.spend.ensures.held c.unwrap_err.ensures) c.spend.ensures.history
 
--- src/desk.rt:120:5
 pub returns-in_default-clause-history : goal.returns-in_default-clause-history
-returns-in_default-clause-history g c = ?
+returns-in_default-clause-history g c = of_another g.K.Kind.demand c.args.self.now.register.table c.args.way (token c.args.id) c.requires
