@@ -10,7 +10,7 @@ use Rattle.std.proofs.lemmas.List.Quantifiers.{all_pairs_push, all_pairs_remove,
 use Rattle.std.proofs.Math.Logic.{∥∥₁_elim}
 use Rattle.std.specs.Coded.{Coded-set, coded_bool}
 use Rattle.demand.specs.Demand.{Demand}
-use Rattle.table.specs.History.{Continues, HasHistory}
+use Rattle.table.specs.History.{Continues, HasHistory, fresh_of}
 use Rattle.table.proofs.InHand.{has_held_is, keep_refused, release_refused}
 use Rattle.table.proofs.Spending.{not_ours}
 use Rattle.table.specs.declared.SpendRefusal.{SpendRefusal}
@@ -69,15 +69,18 @@ flip : (x y : Bool) → (x || y) ≡ (y || (x || false))
 flip x y = grind arith
 
 module _ {K : Type 0} (t u : Table K) (hs : List Hold) (known : InHand t hs) where
+  number_stays : fresh_of u ≡ fresh_of t → u.number ≡ t.number
+  number_stays e = ap (λ (a : Account). a.number) e
+
   own_still : u.number ≡ t.number → All (λ h. h.table ≡ u.number) hs
   own_still e = λ i d l. known.own i d l ∙ sym e
 
   pub same_in_hand : SameHeld t u → InHand u hs
-  same_in_hand same = record { own = own_still same.number; apart = known.apart; exactly = λ n. same.held n ∙ known.exactly n }
+  same_in_hand same = record { own = own_still (number_stays same.start); apart = known.apart; exactly = λ n. same.held n ∙ known.exactly n }
 
   pub one_more : (n : ℕ) (h : Hold) → GivesHoldOn t u n h → InHand u (hs ++ h ∷ [])
   one_more n h given = record {
-    own = All-append (λ x. x.table ≡ u.number) hs (h ∷ []) (own_still given.number) (single (λ x. x.table ≡ u.number) h (given.table ∙ sym given.number));
+    own = All-append (λ x. x.table ≡ u.number) hs (h ∷ []) (own_still (number_stays given.start)) (single (λ x. x.table ≡ u.number) h (given.table ∙ sym (number_stays given.start)));
     apart = all_pairs_push RowsApart hs h known.apart (λ k d l q. none_on n hs (sym (known.exactly n) ∙ given.was) k d l (q ∙ given.row));
     exactly = λ m.
         given.held m
@@ -89,7 +92,7 @@ module _ {K : Type 0} (t u : Table K) (hs : List Hold) (known : InHand t hs) whe
 
   pub one_less : (i : ℕ) (h : Hold) → i < length hs → h ≡ get_or hs i h → SpendsHoldOn t u h → InHand u (remove hs i)
   one_less i h l is spent = record {
-    own = left (λ x. x.table ≡ u.number) hs i (own_still spent.number);
+    own = left (λ x. x.table ≡ u.number) hs i (own_still (number_stays spent.start));
     apart = all_pairs_remove RowsApart hs i l known.apart;
     exactly = λ m.
         spent.held m

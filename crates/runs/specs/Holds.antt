@@ -6,6 +6,7 @@ use Rattle.table.specs.declared.Hold.{Hold}
 use Rattle.table.specs.declared.SpendRefusal.{SpendRefusal}
 use Rattle.table.specs.declared.Table.{Table}
 use Rattle.table.specs.Account.{handed_back}
+use Rattle.table.specs.History.{fresh_of}
 use Rattle.table.specs.Places.{has_held}
 
 -- the hold is on the row with the number n
@@ -32,14 +33,14 @@ module _ {K : Type 0} where
     pub exactly : (n : ℕ) → has_held t n ≡ has_hold n hs
 
   module _ (t u : Table K) where
-    -- the same rows stand as held, at a table of the same number
+    -- the same rows stand as held, at a table of the same number and room
     pub record SameHeld : Type 0 where
-      pub number : u.number ≡ t.number
+      pub start : fresh_of u ≡ fresh_of t
       pub held : (n : ℕ) → has_held u n ≡ has_held t n
 
     -- a hold was given on the row n, which was not held before
     pub record GivesHoldOn (n : ℕ) (h : Hold) : Type 0 where
-      pub number : u.number ≡ t.number
+      pub start : fresh_of u ≡ fresh_of t
       pub table : h.table ≡ t.number
       pub row : h.row ≡ n
       pub was : has_held t n ≡ false
@@ -47,7 +48,7 @@ module _ {K : Type 0} where
 
     -- the hold was spent, which bears the table's number and whose row was held, and its row is held no more
     pub record SpendsHoldOn (h : Hold) : Type 0 where
-      pub number : u.number ≡ t.number
+      pub start : fresh_of u ≡ fresh_of t
       pub table : h.table ≡ t.number
       pub was : has_held t h.row ≡ true
       pub held : (m : ℕ) → has_held u m ≡ (not (h.row == m) && has_held t m)

@@ -1,10 +1,10 @@
 // A table with the holds that it gave, and lists of calls that are run on it.
-ghost use Rattle.std.specs.Prelude.{◌≡◌, ◌≢◌, ℕ, ◌+◌, ◌<◌, ◌≤◌, [], ◌∷◌, ◌++◌, All, Any, IfOk, OnErr, length, map, position, false, MatchResult, MatchOption, slice_index_or, vec_items, ◌↔◌};
+ghost use Rattle.std.specs.Prelude.{◌≡◌, ◌≢◌, ℕ, List, ◌+◌, ◌<◌, ◌≤◌, [], ◌∷◌, ◌++◌, All, Any, IfOk, OnErr, length, map, position, false, MatchResult, MatchOption, slice_index_or, vec_items, ◌↔◌};
 ghost use Rattle.std.specs.Vec.{vec_len, vec_capacity};
 ghost use Rattle.analysis.specs.Judge.{InTime, answers_of};
-ghost use Rattle.table.specs.History.{Continues, HasHistory, rows_at};
+ghost use Rattle.table.specs.History.{Continues, HasHistory, fresh_of, rows_at};
 ghost use Rattle.table.specs.Runs.{Event, holding};
-ghost use Rattle.runs.specs.Calls.{claim_of, given, spending, spent, token};
+ghost use Rattle.runs.specs.Calls.{Follow, IsEvent, claim_of, given, spending, spent, token};
 ghost use Rattle.runs.specs.Holds.{InHand, IsForeign, is_token};
 ghost use Rattle.runs.specs.declared.desk.RunRefusal.TheVariants.{Memory as OutOfMemory};
 
@@ -84,7 +84,7 @@ impl<'a, K: Kind + Drop> Desk<'a, K> {
             (holding (claim_of K.demand task)
             (given (table_of self.old).number task.row.number result))
             (table_of self.old) (table_of self.new) }
-        ensures number { (table_of self.new).number ≡ (table_of self.old).number }
+        ensures start { fresh_of (table_of self.new) ≡ fresh_of (table_of self.old) }
         ensures room { (vec_len self.new.holds ≤ vec_len self.old.holds + 1)
             × (vec_capacity self.new.holds ≡ vec_capacity self.old.holds) }
     {
@@ -98,7 +98,7 @@ impl<'a, K: Kind + Drop> Desk<'a, K> {
         requires { id.table ≡ (table_of self.old).number }
         ensures history { Continues K.demand (spending way (token id) (spent (token id) result))
             (table_of self.old) (table_of self.new) }
-        ensures number { (table_of self.new).number ≡ (table_of self.old).number }
+        ensures start { fresh_of (table_of self.new) ≡ fresh_of (table_of self.old) }
         ensures room { (vec_len self.new.holds ≤ vec_len self.old.holds)
             × (vec_capacity self.new.holds ≡ vec_capacity self.old.holds) }
     {
@@ -113,7 +113,7 @@ impl<'a, K: Kind + Drop> Desk<'a, K> {
         requires { id.table ≢ (table_of self.old).number }
         ensures history { Continues K.demand (spending way (token id) (spent (token id) result))
             (table_of self.old) (table_of self.new) }
-        ensures number { (table_of self.new).number ≡ (table_of self.old).number }
+        ensures start { fresh_of (table_of self.new) ≡ fresh_of (table_of self.old) }
         ensures room { self.new.holds ≡ self.old.holds }
         ensures foreign { vec_items foreign.new ≡ vec_items foreign.old }
     {
@@ -123,6 +123,66 @@ impl<'a, K: Kind + Drop> Desk<'a, K> {
             foreign.insert(place, back).unwrap();
         }
         Err(NotHeld)
+    }
+
+    // The hold that bears these numbers is spent, or it comes back to where it was.
+    fn spend(&mut self, way: Way, id: HoldId, foreign: &mut Vec<Hold>) -> Result<(), NotHeld>
+        ensures history { Continues K.demand
+            (spending way (token id) (spent (token id) result))
+            (table_of self.old) (table_of self.new) }
+        ensures start { fresh_of (table_of self.new) ≡ fresh_of (table_of self.old) }
+        ensures room { (vec_len self.new.holds ≤ vec_len self.old.holds)
+            × (vec_capacity self.new.holds ≡ vec_capacity self.old.holds) }
+        ensures foreign { vec_items foreign.new ≡ vec_items foreign.old }
+    {
+        if id.table == self.register.number() {
+            self.spend_own(way, id)
+        } else {
+            self.offer(way, id, foreign)
+        }
+    }
+
+    // A call is made.
+    fn make(&mut self, call: Call<K>, foreign: &mut Vec<Hold>) -> Reply
+        requires { vec_len self.old.holds < vec_capacity self.old.holds }
+        ensures history { (e : Event) × IsEvent K.demand (table_of self.old).number call result e
+            × Continues K.demand e (table_of self.old) (table_of self.new) }
+        ensures start { fresh_of (table_of self.new) ≡ fresh_of (table_of self.old) }
+        ensures room { (vec_len self.new.holds ≤ vec_len self.old.holds + 1)
+            × (vec_capacity self.new.holds ≡ vec_capacity self.old.holds) }
+        ensures foreign { vec_items foreign.new ≡ vec_items foreign.old }
+    {
+        match call {
+            Call::Hold(task) => Reply::Hold(self.take_in(task)),
+            Call::Keep(id) => Reply::Keep(self.spend(Way::KeepRow, id, foreign)),
+            Call::Release(id) => Reply::Release(self.spend(Way::GiveUp, id, foreign)),
+            Call::Withdraw(number) => Reply::Withdraw(self.register.withdraw(number)),
+            Call::Bound(number) => Reply::Bound(self.register.bound(number)),
+        }
+    }
+
+    // The calls are made one after the other, and each reply is put behind those before.
+    fn make_all(
+        &mut self,
+        calls: Vec<Call<K>>,
+        foreign: &mut Vec<Hold>,
+        replies: &mut Vec<Reply>,
+    )
+        requires none { vec_items replies.old ≡ [] }
+        requires replies { vec_len calls ≤ vec_capacity replies.old }
+        requires holds { vec_len self.old.holds + vec_len calls ≤ vec_capacity self.old.holds }
+        ensures history { (es : List Event) → HasHistory K.demand es (table_of self.old)
+            → (all : List Event)
+            × Follow K.demand (table_of self.new).number (vec_items calls) (vec_items replies.new) es all
+            × HasHistory K.demand all (table_of self.new) }
+        ensures start { fresh_of (table_of self.new) ≡ fresh_of (table_of self.old) }
+        ensures foreign { vec_items foreign.new ≡ vec_items foreign.old }
+    {
+        let mut left = calls.into_iter();
+        while let Some(call) = left.next() {
+            let reply = self.make(call, foreign);
+            replies.push_reserved(reply);
+        }
     }
 }
 

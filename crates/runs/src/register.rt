@@ -6,7 +6,7 @@ ghost use Rattle.table.specs.Accounted.{IsAccounted};
 ghost use Rattle.table.specs.Agreement.{AgreesWith};
 ghost use Rattle.table.specs.History.{Continues, HasHistory, rows_at};
 ghost use Rattle.table.specs.Memory.{Emptied};
-ghost use Rattle.table.specs.Runs.{holding, withdrawing};
+ghost use Rattle.table.specs.Runs.{holding, withdrawing, bounding};
 ghost use Rattle.runs.specs.Calls.{claim_of, spending};
 ghost use Rattle.runs.specs.Holds.{SameHeld, GivesHoldOn, SpendsHoldOn, HandsBack};
 ghost use Rattle.runs.specs.Passing.{KeepsRow, GivesRowUp};
@@ -109,5 +109,12 @@ impl<'a, K: Kind + Drop> Register<'a, K> {
         ensures held { SameHeld self.old.table self.new.table }
     {
         self.table.withdraw(number)
+    }
+
+    /// The bound and the vector of a row.
+    pub(crate) fn bound(&self, number: u32) -> Result<(u32, u32), BoundRefusal>
+        ensures { Continues K.demand (bounding number result) self.now.table self.now.table }
+    {
+        self.table.bound(number)
     }
 }

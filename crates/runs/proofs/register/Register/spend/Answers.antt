@@ -8,10 +8,10 @@ pub invariant_of-self : goal.invariant_of-self
 invariant_of-self g c = record { accounted = still_accounted _ _ _ _ c.keep.ensures.account c.args.self.now.accounted }
 
 pub returns-in-KeepRow-clause-held : goal.returns-in-KeepRow-clause-held
-returns-in-KeepRow-clause-held g c = spends g.K.Kind.demand c.args.self.now.table c.keep.new.self c.args.self.now.accounted c.args.hold (λ a. with_kept a c.args.hold) (λ a. refl) (λ a. refl) c.keep.result c.keep.ensures.account
+returns-in-KeepRow-clause-held g c = spends g.K.Kind.demand c.args.self.now.table c.keep.new.self c.args.self.now.accounted c.args.hold (λ a. with_kept a c.args.hold) (λ a. (refl, refl)) (λ a. refl) c.keep.result c.keep.ensures.account
 
 pub invariant_of-self-in-GiveUp : goal.invariant_of-self-in-GiveUp
 invariant_of-self-in-GiveUp g c = record { accounted = still_accounted _ _ _ _ c.release.ensures.account c.args.self.now.accounted }
 
 pub returns-in-GiveUp-clause-held : goal.returns-in-GiveUp-clause-held
-returns-in-GiveUp-clause-held g c = spends g.K.Kind.demand c.args.self.now.table c.release.new.self c.args.self.now.accounted c.args.hold (λ a. with_released a c.args.hold) (λ a. refl) (λ a. refl) c.release.result c.release.ensures.account
+returns-in-GiveUp-clause-held g c = spends g.K.Kind.demand c.args.self.now.table c.release.new.self c.args.self.now.accounted c.args.hold (λ a. with_released a c.args.hold) (λ a. (refl, refl)) (λ a. refl) c.release.result c.release.ensures.account
