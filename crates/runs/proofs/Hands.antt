@@ -101,6 +101,15 @@ module _ {K : Type 0} (t u : Table K) (hs : List Hold) (known : InHand t hs) whe
         ∙ sym (gone hs i h l known.apart m);
   }
 
+-- the last hold goes
+last_gone : (hs : List Hold) (h : Hold) → remove (hs ++ h ∷ []) (length hs) ≡ hs
+last_gone [] h = refl
+last_gone (x ∷ hs) h = ap (λ ys. x ∷ ys) (last_gone hs h)
+
+last_there : (hs : List Hold) (h : Hold) → (length hs < length (hs ++ h ∷ [])) × (h ≡ get_or (hs ++ h ∷ []) (length hs) h)
+last_there [] h = (omega arith, refl)
+last_there (x ∷ hs) h = let rest = last_there hs h in (omega (arith, rest.0), rest.1)
+
 -- what a search for the hold of two numbers found
 module _ (table n : ℕ) where
   place_none : (i : ℕ) (hs : List Hold) → position_from (is_token table n) i hs ≡ None → list_any (is_token table n) hs ≡ false
@@ -187,3 +196,19 @@ module _ {K : Type 0} (t u : Table K) (hs : List Hold) (known : InHand t hs) (i 
   pub spent_surely : (r : Result (Unit {0}) SpendRefusal) → MatchResult r (λ _. SpendsHoldOn t u h) (HandsBack t u h) → SpendsHoldOn t u h
   spent_surely (Ok x) m = m
   spent_surely (Err e) m = absurd (both_ways (has_held t h.row) (m.why own_number) stands_held)
+
+-- the last hold in hand is spent without refusal
+module _ {K : Type 0} (t u : Table K) (hs : List Hold) (h : Hold) (known : InHand t (hs ++ h ∷ [])) (r : Result (Unit {0}) SpendRefusal) (m : MatchResult r (λ _. SpendsHoldOn t u h) (HandsBack t u h)) where
+  pub last_taken : IsOk r
+  last_taken =
+      let there = last_there hs h in
+      not_handed_back t u (hs ++ h ∷ []) known (length hs) h there.0 there.1 r m
+
+  pub without_last : InHand u hs
+  without_last =
+      let there = last_there hs h in
+      subst (InHand u) (last_gone hs h) (one_less t u (hs ++ h ∷ []) known (length hs) h there.0 there.1 (spent_surely t u (hs ++ h ∷ []) known (length hs) h there.0 there.1 r m))
+
+pub no_items : {A : Type 0} (xs : List A) → length xs ≡ 0 → xs ≡ []
+no_items [] e = refl
+no_items (x ∷ xs) e = absurd (omega arith)

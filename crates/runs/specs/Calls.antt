@@ -59,6 +59,10 @@ abbrev pub spending : Way → Token → Result (Unit {0}) SpendRefusal → Event
 spending KeepRow h r = keeping h r
 spending GiveUp h r = releasing h r
 
+-- the hold was released
+abbrev pub given_up : Token → Event
+given_up h = releasing h (Ok tt)
+
 -- the row of a task, with the meaning of its kind
 abbrev pub claim_of : {K : Type 0} → (K → Demand) → Task K → Claim
 claim_of demand task = record { row = task.row; demand = demand task.kind }

@@ -21,9 +21,9 @@ has_hold n hs = list_any (is_on n) hs
 abbrev pub is_token : ℕ → ℕ → Hold → Bool
 is_token table n h = h.table == table && h.row == n
 
--- no hold of these bears the number of this table
-abbrev pub IsForeign : ℕ → List Hold → Type 0
-IsForeign table hs = All (λ h. h.table ≢ table) hs
+-- one of these holds bears the number of this table
+abbrev pub has_own : ℕ → List Hold → Bool
+has_own table hs = list_any (λ h. h.table == table) hs
 
 module _ {K : Type 0} where
   -- These holds are those in hand: each bears the table's number, no two are on one row, and a row stands as held exactly where one is on it.

@@ -1,11 +1,13 @@
 // A table with the holds that it gave, and lists of calls that are run on it.
-ghost use Rattle.std.specs.Prelude.{◌≡◌, ◌≢◌, ℕ, List, ◌+◌, ◌<◌, ◌≤◌, [], ◌∷◌, ◌++◌, All, Any, IfOk, OnErr, length, map, position, false, MatchResult, MatchOption, slice_index_or, vec_items, ◌↔◌};
+ghost use Rattle.std.specs.Prelude.{◌≡◌, ◌≢◌, ℕ, List, ◌+◌, ◌<◌, ◌≤◌, [], ◌∷◌, ◌++◌, All, Any, IfOk, OnErr, length, min, map, position, true, false, MatchResult, MatchOption, slice_index_or, vec_items, ◌↔◌};
 ghost use Rattle.std.specs.Vec.{vec_len, vec_capacity};
 ghost use Rattle.analysis.specs.Judge.{InTime, answers_of};
+ghost use Rattle.table.specs.Account.{fresh};
 ghost use Rattle.table.specs.History.{Continues, HasHistory, fresh_of, rows_at};
+ghost use Rattle.table.specs.Places.{has_held};
 ghost use Rattle.table.specs.Runs.{Event, holding};
-ghost use Rattle.runs.specs.Calls.{Follow, IsEvent, claim_of, given, spending, spent, token};
-ghost use Rattle.runs.specs.Holds.{InHand, IsForeign, is_token};
+ghost use Rattle.runs.specs.Calls.{Follow, IsEvent, claim_of, given, given_up, spending, spent, token};
+ghost use Rattle.runs.specs.Holds.{InHand, has_own, is_token};
 ghost use Rattle.runs.specs.declared.desk.RunRefusal.TheVariants.{Memory as OutOfMemory};
 
 use super::call::{Call, HoldId, NotHeld, Reply, Way};
@@ -50,12 +52,12 @@ impl From<AllocError> for RunRefusal {
 }
 
 impl<'a, K: Kind + Drop> Desk<'a, K> {
-    ghost use Rattle.runs.specs.Desk.{table_of, holds_of};
+    ghost use Rattle.runs.specs.Desk.{KeepsPromise, SameDesk, holds_of, table_of};
 
     /// An empty table over row memory, of which it uses twelve places at most, and no hold. What stood there is let go.
     pub fn new(heap: Global, number: u8, places: &'a mut [Option<Task<K>>]) -> Desk<'a, K>
         ensures history { HasHistory K.demand [] (table_of result) }
-        ensures number { (table_of result).number ≡ number }
+        ensures start { fresh_of (table_of result) ≡ fresh number (min (length places.old) 12) }
     {
         Desk {
             register: Register::new(number, places),
@@ -70,11 +72,109 @@ impl<'a, K: Kind + Drop> Desk<'a, K> {
         self.register.table()
     }
 
+    /// The holds in hand.
+    pub fn holds(&self) -> &[Hold]
+        ensures { result.now ≡ holds_of self.now }
+    {
+        &self.holds
+    }
+
     /// Number, bound, vector and blocking of all rows, highest first.
     pub fn answers(&self) -> Answers
         ensures { InTime (rows_at K.demand (table_of self.now)) (answers_of result) }
     {
         self.register.answers()
+    }
+
+    /// Runs a list of calls, in order. Holds of other tables may be handed in, and are so again when this returns: a call that
+    /// names one of them hands it to the table, which hands it back. A call that names a hold which is neither in hand nor
+    /// handed in is answered as the table would answer it. A refusal changes nothing and comes before any call is made: for a
+    /// hold that was handed in and bears the table's own number, else for want of memory.
+    pub fn run(
+        &mut self,
+        heap: Global,
+        calls: Vec<Call<K>>,
+        foreign: &mut Vec<Hold>,
+    ) -> Result<Ran, RunRefusal>
+        ensures promise { IfOk result (λ ran. (es : List Event)
+            → HasHistory K.demand es (table_of self.old)
+            → KeepsPromise K.demand es (vec_items calls) ran (table_of self.new)) }
+        ensures start { fresh_of (table_of self.new) ≡ fresh_of (table_of self.old) }
+        ensures foreign { vec_items foreign.new ≡ vec_items foreign.old }
+        ensures own_hold { (result ≡ Err RunRefusal.OwnHold)
+            ↔ (has_own (table_of self.old).number (vec_items foreign.old) ≡ true) }
+        ensures refused { OnErr result (SameDesk self.old self.new) }
+    {
+        if brings_own(foreign, self.register.number()) {
+            return Err(RunRefusal::OwnHold);
+        }
+        let mut replies = Vec::with_capacity(heap, calls.len())?;
+        self.holds.reserve(calls.len())?;
+        self.make_all(calls, foreign, &mut replies);
+        let answers = self.answers();
+        Ok(Ran { replies, answers })
+    }
+
+    /// Makes a table over row memory and runs a list of calls on it, as `run` does. The table comes back with the holds that are
+    /// in hand then, and more calls can be run on it. Of the row memory the first twelve places at most are used, and what stood
+    /// there is let go in any case.
+    pub fn open(
+        heap: Global,
+        number: u8,
+        places: &'a mut [Option<Task<K>>],
+        calls: Vec<Call<K>>,
+        foreign: &mut Vec<Hold>,
+    ) -> Result<(Desk<'a, K>, Ran), RunRefusal>
+        ensures promise { IfOk result (λ r.
+            KeepsPromise K.demand [] (vec_items calls) r.1 (table_of r.0)) }
+        ensures start { IfOk result (λ r. fresh_of (table_of r.0) ≡ fresh number (min (length places.old) 12)) }
+        ensures foreign { vec_items foreign.new ≡ vec_items foreign.old }
+        ensures own_hold { (result ≡ Err RunRefusal.OwnHold)
+            ↔ (has_own number (vec_items foreign.old) ≡ true) }
+    {
+        let mut desk = Desk::new(heap, number, places);
+        match desk.run(heap, calls, foreign) {
+            Ok(ran) => Ok((desk, ran)),
+            Err(refusal) => {
+                desk.close();
+                Err(refusal)
+            }
+        }
+    }
+
+    /// The same, where the holds of other tables are those in hand at another desk.
+    pub fn run_beside<L: Kind + Drop>(
+        &mut self,
+        heap: Global,
+        calls: Vec<Call<K>>,
+        other: &mut Desk<'_, L>,
+    ) -> Result<Ran, RunRefusal>
+        ensures promise { IfOk result (λ ran. (es : List Event)
+            → HasHistory K.demand es (table_of self.old)
+            → KeepsPromise K.demand es (vec_items calls) ran (table_of self.new)) }
+        ensures start { fresh_of (table_of self.new) ≡ fresh_of (table_of self.old) }
+        ensures other { SameDesk other.old other.new }
+        ensures refused { OnErr result (SameDesk self.old self.new) }
+    {
+        self.run(heap, calls, &mut other.holds)
+    }
+
+    /// Gives up what is held still: each hold in hand is released, the last one first. The table is answered.
+    pub fn close(self) -> Table<'a, K>
+        ensures history { (es : List Event) → HasHistory K.demand es (table_of self.entry)
+            → HasHistory K.demand (map given_up (holds_of self.entry) ++ es) result }
+        ensures kept { (n : ℕ) → has_held result n ≡ false }
+    {
+        let Desk {
+            mut register,
+            mut holds,
+        } = self;
+        while let Some(hold) = holds.pop() {
+            register.spend(Way::GiveUp, hold).unwrap();
+        }
+        holds.destroy_empty();
+        let Register { table } = register;
+        table
     }
 
     // A row is held. The hold comes to hand.
@@ -162,12 +262,7 @@ impl<'a, K: Kind + Drop> Desk<'a, K> {
     }
 
     // The calls are made one after the other, and each reply is put behind those before.
-    fn make_all(
-        &mut self,
-        calls: Vec<Call<K>>,
-        foreign: &mut Vec<Hold>,
-        replies: &mut Vec<Reply>,
-    )
+    fn make_all(&mut self, calls: Vec<Call<K>>, foreign: &mut Vec<Hold>, replies: &mut Vec<Reply>)
         requires none { vec_items replies.old ≡ [] }
         requires replies { vec_len calls ≤ vec_capacity replies.old }
         requires holds { vec_len self.old.holds + vec_len calls ≤ vec_capacity self.old.holds }
@@ -184,6 +279,13 @@ impl<'a, K: Kind + Drop> Desk<'a, K> {
             replies.push_reserved(reply);
         }
     }
+}
+
+// Whether a hold bears this table's number.
+fn brings_own(holds: &[Hold], table: u8) -> bool
+    ensures { result ≡ has_own table holds.now }
+{
+    holds.iter().any(|hold| hold.table() == table)
 }
 
 // The place of the hold that bears these numbers.

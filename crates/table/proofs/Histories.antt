@@ -257,9 +257,11 @@ module _ {K : Type 0} (demand : K → Demand) (es : List Event) (t : Table K) (h
   }
 
   -- with the answers for all rows it is the promise with theirs
-  pub answered_promise : (xs : List Answer) → Answered (loads (ranked a.rows)) xs → Promise demand es t (bounds_of xs) (vectors_of xs)
+  pub answered_promise : (xs : List Answer) → Answered (loads (ranked (rows_at demand t))) xs → Promise demand es t (bounds_of xs) (vectors_of xs)
   answered_promise xs answered =
-      promise (bounds_of xs) (vectors_of xs) (subst (λ (n : ℕ). Bounds (system_of a.rows) n (bounds_of xs) (vectors_of xs)) (length_ranks a.rows) answered.bounds)
+      promise (bounds_of xs) (vectors_of xs)
+      (subst (λ (cs : List Claim). Bounds (system (loads cs)) (length a.rows) (bounds_of xs) (vectors_of xs)) same_ranks
+      (subst (λ (n : ℕ). Bounds (system_of (rows_at demand t)) n (bounds_of xs) (vectors_of xs)) (length_ranks (rows_at demand t) ∙ same_length) answered.bounds))
 
 -- whatever calls a table has been through
 pub every_history : {K : Type 0} (demand : K → Demand) → EveryHistory demand

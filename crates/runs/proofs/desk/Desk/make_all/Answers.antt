@@ -6,11 +6,8 @@ use Rattle.table.specs.Runs.{Event}
 use Rattle.runs.specs.declared.call.Reply.{Reply}
 use Rattle.runs.specs.Calls.{Follow}
 use Rattle.runs.specs.Desk.{table_of}
+use Rattle.runs.proofs.Hands.{no_items}
 use Rattle.runs.proofs.desk.Desk.make_all.Goals as goal
-
-no_items : {A : Type 0} (xs : List A) → length xs ≡ 0 → xs ≡ []
-no_items [] e = refl
-no_items (x ∷ xs) e = absurd (omega arith)
 
 -- at the end no call is left
 pub returns-clause-history : goal.returns-clause-history
