@@ -8,7 +8,6 @@ use Rattle.analysis.specs.Judge.{InTime, answers_of, bounds_of, vectors_of}
 use Rattle.table.specs.declared.Hold.{Hold}
 use Rattle.table.specs.declared.Table.{Table}
 use Rattle.table.specs.History.{HasHistory, Promise, rows_at}
-use Rattle.table.specs.Memory.{SameTable}
 use Rattle.table.specs.Runs.{Event}
 use Rattle.runs.specs.declared.call.Call.{Call}
 use Rattle.runs.specs.declared.desk.Desk.{Desk}
@@ -26,7 +25,7 @@ module _ {K : Type 0} {kind : Ghosts K} where
 
   -- the table is as it was, and so are the holds in hand
   pub record SameDesk (d e : Desk K kind) : Type 0 where
-    pub table : SameTable (table_of d) (table_of e)
+    pub table : table_of e ≡ table_of d
     pub holds : holds_of e ≡ holds_of d
 
 -- What is promised of calls that were run on a table which had been through es.

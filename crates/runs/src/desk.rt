@@ -1,5 +1,5 @@
 // A table with the holds that it gave, and lists of calls that are run on it.
-ghost use Rattle.std.specs.Prelude.{◌≡◌, ◌≢◌, ℕ, List, ◌+◌, ◌<◌, ◌≤◌, [], ◌∷◌, ◌++◌, All, Any, IfOk, OnErr, length, min, map, position, true, false, MatchResult, MatchOption, slice_index_or, vec_items, ◌↔◌};
+ghost use Rattle.std.specs.Prelude.{◌≡◌, ◌≢◌, ℕ, List, ◌+◌, ◌<◌, ◌≤◌, [], ◌∷◌, ◌++◌, All, Any, IfOk, OnErr, OnOk, length, min, map, position, true, false, MatchResult, MatchOption, slice_index_or, vec_items, ◌↔◌};
 ghost use Rattle.std.specs.Vec.{vec_len, vec_capacity};
 ghost use Rattle.analysis.specs.Judge.{InTime, answers_of};
 ghost use Rattle.table.specs.Account.{fresh};
@@ -86,11 +86,26 @@ impl<'a, K: Kind + Drop> Desk<'a, K> {
         self.register.answers()
     }
 
-    /// Runs a list of calls, in order. Holds of other tables may be handed in, and are so again when this returns: a call that
-    /// names one of them hands it to the table, which hands it back. A call that names a hold which is neither in hand nor
-    /// handed in is answered as the table would answer it. A refusal changes nothing and comes before any call is made: for a
-    /// hold that was handed in and bears the table's own number, else for want of memory.
-    pub fn run(
+    /// Runs a list of calls, in order. A call that names a hold which is not in hand is answered as the table would answer it.
+    /// The only refusal is for want of memory: it comes before any call is made, and nothing has changed.
+    pub fn run(&mut self, heap: Global, calls: Vec<Call<K>>) -> Result<Ran, AllocError>
+        ensures promise { IfOk result (λ ran. (es : List Event)
+            → HasHistory K.demand es (table_of self.old)
+            → KeepsPromise K.demand es (vec_items calls) ran (table_of self.new)) }
+        ensures start { fresh_of (table_of self.new) ≡ fresh_of (table_of self.old) }
+        ensures refused { OnErr result (SameDesk self.old self.new) }
+    {
+        let replies = self.room_for(heap, calls.len())?;
+        let mut none = Vec::new(heap);
+        let ran = self.make_listed(calls, &mut none, replies);
+        none.destroy_empty();
+        Ok(ran)
+    }
+
+    /// The same, where holds of other tables are handed in. A call that names one of them hands it to the table, which hands it
+    /// back, and all are where they were when this returns. Refused before any call is made, where nothing has changed: a hold
+    /// that was handed in and bears the table's own number, else want of memory.
+    pub fn run_with(
         &mut self,
         heap: Global,
         calls: Vec<Call<K>>,
@@ -108,15 +123,31 @@ impl<'a, K: Kind + Drop> Desk<'a, K> {
         if brings_own(foreign, self.register.number()) {
             return Err(RunRefusal::OwnHold);
         }
-        let mut replies = Vec::with_capacity(heap, calls.len())?;
-        self.holds.reserve(calls.len())?;
-        self.make_all(calls, foreign, &mut replies);
-        let answers = self.answers();
-        Ok(Ran { replies, answers })
+        let replies = self.room_for(heap, calls.len())?;
+        Ok(self.make_listed(calls, foreign, replies))
     }
 
-    /// Makes a table over row memory and runs a list of calls on it, as `run` does. The table comes back with the holds that are
-    /// in hand then, and more calls can be run on it. Of the row memory the first twelve places at most are used, and what stood
+    /// The same, where the holds of other tables are those in hand at another desk.
+    pub fn run_beside<L: Kind + Drop>(
+        &mut self,
+        heap: Global,
+        calls: Vec<Call<K>>,
+        other: &mut Desk<'_, L>,
+    ) -> Result<Ran, RunRefusal>
+        ensures promise { IfOk result (λ ran. (es : List Event)
+            → HasHistory K.demand es (table_of self.old)
+            → KeepsPromise K.demand es (vec_items calls) ran (table_of self.new)) }
+        ensures start { fresh_of (table_of self.new) ≡ fresh_of (table_of self.old) }
+        ensures other { SameDesk other.old other.new }
+        ensures own_hold { (result ≡ Err RunRefusal.OwnHold)
+            ↔ (has_own (table_of self.old).number (holds_of other.old) ≡ true) }
+        ensures refused { OnErr result (SameDesk self.old self.new) }
+    {
+        self.run_with(heap, calls, &mut other.holds)
+    }
+
+    /// Makes a table over row memory and runs a list of calls on it, as `run_with` does. The table comes back with the holds
+    /// that are in hand then, and more calls can be run on it. Of the row memory the first twelve places at most are used, and what stood
     /// there is let go in any case.
     pub fn open(
         heap: Global,
@@ -133,30 +164,13 @@ impl<'a, K: Kind + Drop> Desk<'a, K> {
             ↔ (has_own number (vec_items foreign.old) ≡ true) }
     {
         let mut desk = Desk::new(heap, number, places);
-        match desk.run(heap, calls, foreign) {
+        match desk.run_with(heap, calls, foreign) {
             Ok(ran) => Ok((desk, ran)),
             Err(refusal) => {
                 desk.close();
                 Err(refusal)
             }
         }
-    }
-
-    /// The same, where the holds of other tables are those in hand at another desk.
-    pub fn run_beside<L: Kind + Drop>(
-        &mut self,
-        heap: Global,
-        calls: Vec<Call<K>>,
-        other: &mut Desk<'_, L>,
-    ) -> Result<Ran, RunRefusal>
-        ensures promise { IfOk result (λ ran. (es : List Event)
-            → HasHistory K.demand es (table_of self.old)
-            → KeepsPromise K.demand es (vec_items calls) ran (table_of self.new)) }
-        ensures start { fresh_of (table_of self.new) ≡ fresh_of (table_of self.old) }
-        ensures other { SameDesk other.old other.new }
-        ensures refused { OnErr result (SameDesk self.old self.new) }
-    {
-        self.run(heap, calls, &mut other.holds)
     }
 
     /// Gives up what is held still: each hold in hand is released, the last one first. The table is answered.
@@ -175,6 +189,38 @@ impl<'a, K: Kind + Drop> Desk<'a, K> {
         holds.destroy_empty();
         let Register { table } = register;
         table
+    }
+
+    // Room for so many replies, and for so many holds more.
+    fn room_for(&mut self, heap: Global, count: usize) -> Result<Vec<Reply>, AllocError>
+        ensures replies { IfOk result (λ v. (vec_items v ≡ []) × (count ≤ vec_capacity v)) }
+        ensures holds { OnOk result
+            (vec_len self.new.holds + count ≤ vec_capacity self.new.holds) }
+        ensures same { SameDesk self.old self.new }
+    {
+        let replies = Vec::with_capacity(heap, count)?;
+        self.holds.reserve(count)?;
+        Ok(replies)
+    }
+
+    // The calls are made, and all rows are answered then.
+    fn make_listed(
+        &mut self,
+        calls: Vec<Call<K>>,
+        foreign: &mut Vec<Hold>,
+        mut replies: Vec<Reply>,
+    ) -> Ran
+        requires none { vec_items replies ≡ [] }
+        requires replies { vec_len calls ≤ vec_capacity replies }
+        requires holds { vec_len self.old.holds + vec_len calls ≤ vec_capacity self.old.holds }
+        ensures promise { (es : List Event) → HasHistory K.demand es (table_of self.old)
+            → KeepsPromise K.demand es (vec_items calls) result (table_of self.new) }
+        ensures start { fresh_of (table_of self.new) ≡ fresh_of (table_of self.old) }
+        ensures foreign { vec_items foreign.new ≡ vec_items foreign.old }
+    {
+        self.make_all(calls, foreign, &mut replies);
+        let answers = self.answers();
+        Ran { replies, answers }
     }
 
     // A row is held. The hold comes to hand.

@@ -2,7 +2,7 @@ use Rattle.std.proofs.Math.Logic.{∥∥₁_map}
 use Rattle.analysis.specs.Judge.{answers_of}
 use Rattle.table.proofs.Histories.{answered_promise}
 use Rattle.runs.specs.Desk.{table_of}
-use Rattle.runs.proofs.desk.Desk.run.Goals as goal
+use Rattle.runs.proofs.desk.Desk.make_listed.Goals as goal
 
 pub returns-clause-promise : goal.returns-clause-promise
 returns-clause-promise g c es known =
