@@ -1,140 +1,170 @@
-// An evening at a charging cabinet: rows enter and leave a table, and each step is told.
+// An evening at a charging cabinet: calls are run on a desk, list after list, and each reply is told.
 #![tactic(auto)]
 
-mod desk;
 mod rows;
 mod tell;
 
-ghost use Rattle.demand.specs.Basic.{every_demand};
-ghost use Rattle.table.specs.Accounted.{IsHolding};
-
-use analysis::Task;
+use analysis::MOST_ROWS;
 use demand::Every;
-use desk::{Desk, handed_back};
 use rows::{FAST, NIGHT, SLOW, car, card_reader, meters};
-use std::io;
-use table::Hold;
-use tell::{tell_bounds, tell_refusal, tell_room, tell_rows, tell_state, tell_withdrawal};
+use runs::{Call, Desk, HoldId, Reply};
+use std::alloc::{AllocError, Global};
+use tell::{tell_replies, tell_room, tell_rows};
 
-// A row is held, and its hold is then spent: kept if the card is known, else given up. No print between may return early,
-// since the hold would be lost.
-fn start<'a, F>(
+// The number of the first table and of the second.
+const FIRST: u8 = 1;
+
+const SECOND: u8 = 2;
+
+// The calls that spend the hold of the first table on a row: with a known card it is kept, with an unknown one given up.
+fn keep(row: u32) -> Call<Every> {
+    Call::Keep(HoldId { table: FIRST, row })
+}
+
+fn give_up(row: u32) -> Call<Every> {
+    Call::Release(HoldId { table: FIRST, row })
+}
+
+// The row that a call is about.
+fn row_of(call: &Call<Every>) -> u32 {
+    match call {
+        Call::Hold(task) => task.row.number,
+        Call::Keep(id) | Call::Release(id) => id.row,
+        Call::Withdraw(number) | Call::Bound(number) => *number,
+    }
+}
+
+fn rows_of(heap: Global, calls: &[Call<Every>]) -> Result<Vec<u32>, AllocError> {
+    calls.iter().map(row_of).collect(heap)
+}
+
+// Runs a list of calls, and tells what each was answered.
+fn play<const N: usize>(
     rt: &HostRuntime,
-    desk: &mut Desk<'a>,
-    task: Task<Every>,
-    spend: F,
-) -> io::Result<()>
-where
-    F: FnOnce(&mut Desk<'a>, Hold),
-    requires { (d : _) (h : _) → IsHolding every_demand d.now.table h → F.pre spend d h }
-{
-    let number = task.row.number;
-    match desk.take_in(task) {
-        Ok(hold) => {
-            let told = tell_state(rt, desk, number);
-            spend(desk, hold);
-            told?;
-            tell_state(rt, desk, number)
-        }
-        Err(refusal) => tell_refusal(rt, number, refusal),
-    }
+    desk: &mut Desk<'_, Every>,
+    calls: [Call<Every>; N],
+) -> anyhow::Result<()> {
+    let heap = rt.alloc();
+    let calls = Vec::from_array(heap, calls)?;
+    let rows = rows_of(heap, &calls)?;
+    let ran = desk.run(heap, calls)?;
+    tell_replies(rt, &rows, &ran.replies)
 }
 
-fn depart(rt: &HostRuntime, desk: &mut Desk<'_>, number: u32) -> io::Result<()> {
-    let left = desk.leave(number);
-    tell_withdrawal(rt, number, left)
-}
-
-// A row is asked to leave while it is held, and then kept: `start` with one step more, since the answer to the withdrawal is
-// told between the two states of the row. One function for both would be passed closures with an answer to be told, and each
-// `start` would pass one that has nothing to tell: no plainer.
-fn depart_early(rt: &HostRuntime, desk: &mut Desk<'_>, task: Task<Every>) -> io::Result<()> {
-    let number = task.row.number;
-    match desk.take_in(task) {
-        Ok(hold) => {
-            let held = tell_state(rt, desk, number);
-            let left = desk.leave(number);
-            desk.keep(hold);
-            held?;
-            tell_withdrawal(rt, number, left)?;
-            tell_state(rt, desk, number)
-        }
-        Err(refusal) => tell_refusal(rt, number, refusal),
-    }
-}
-
-// A hold of another table is handed to this one, which hands it back, and is released where it came from.
-fn mix_up(rt: &HostRuntime, desk: &mut Desk<'_>, other: &mut Desk<'_>, hold: Hold) -> io::Result<()>
-    requires { IsHolding every_demand other.old.table hold }
-{
-    let from = hold.table();
-    let row = hold.row();
-    match desk.hand_over(hold) {
-        Ok(()) => println!(rt; "The hold of table {from} on row {row} is taken."),
-        Err(refusal) => {
-            let why = refusal.number();
-            other.give_up(handed_back(refusal));
-            println!(rt;
-                "The hold of table {from} on row {row} is handed back: refused with number {why}."
-            )?;
-            println!(rt; "It is released at table {from}.")?;
-            tell_state(rt, other, row)
-        }
-    }
-}
-
-// A second table of four places, whose hold is handed to the first.
-fn second_table(rt: &HostRuntime, desk: &mut Desk<'_>) -> io::Result<()> {
-    let mut places = [None; 4];
-    let mut other = Desk::new(2, &mut places);
-    tell_room(rt, &other, 2)?;
-    match other.take_in(car(6, 5, SLOW)) {
-        Ok(hold) => mix_up(rt, desk, &mut other, hold),
-        Err(refusal) => tell_refusal(rt, 6, refusal),
-    }
-}
-
-// The rows that stand as the evening begins.
-fn open(rt: &HostRuntime, desk: &mut Desk<'_>) -> io::Result<()> {
-    tell_room(rt, desk, 1)?;
-    println!(rt; "The meters start as row 1.")?;
-    start(rt, desk, meters(), Desk::keep)?;
+// The card reader starts beside the meters.
+fn open(rt: &HostRuntime, desk: &mut Desk<'_, Every>) -> anyhow::Result<()> {
     println!(rt; "The card reader starts as row 2.")?;
-    start(rt, desk, card_reader(), Desk::keep)?;
-    tell_rows(rt, desk)
+    play(rt, desk, [Call::Hold(card_reader()), keep(2)])?;
+    tell_rows(rt, &desk.answers())
 }
 
 // One car with a known card, and one with an unknown card, which changes no bound.
-fn two_cars(rt: &HostRuntime, desk: &mut Desk<'_>) -> io::Result<()> {
+fn two_cars(rt: &HostRuntime, desk: &mut Desk<'_, Every>) -> anyhow::Result<()> {
     println!(rt; "A car with a known card is plugged in as row 3.")?;
-    start(rt, desk, car(3, 10, SLOW), Desk::keep)?;
-    tell_rows(rt, desk)?;
+    play(rt, desk, [Call::Hold(car(3, 10, SLOW)), keep(3)])?;
+    tell_rows(rt, &desk.answers())?;
     println!(rt; "A car with an unknown card is plugged in as row 4.")?;
-    start(rt, desk, car(4, 9, SLOW), Desk::give_up)?;
-    tell_rows(rt, desk)
+    play(rt, desk, [Call::Hold(car(4, 9, SLOW)), give_up(4)])?;
+    tell_rows(rt, &desk.answers())
 }
 
 // A car that would make another late, and is taken after that one has left.
-fn wait_for_place(rt: &HostRuntime, desk: &mut Desk<'_>) -> io::Result<()> {
+fn wait_for_place(rt: &HostRuntime, desk: &mut Desk<'_, Every>) -> anyhow::Result<()> {
     println!(rt; "A fast car is plugged in as row 5.")?;
-    start(rt, desk, car(5, 15, FAST), Desk::keep)?;
+    play(rt, desk, [Call::Hold(car(5, 15, FAST))])?;
     println!(rt; "The car of row 3 is unplugged.")?;
-    depart(rt, desk, 3)?;
+    play(rt, desk, [Call::Withdraw(3)])?;
     println!(rt; "The fast car asks again.")?;
-    start(rt, desk, car(5, 15, FAST), Desk::keep)?;
-    tell_rows(rt, desk)
+    play(rt, desk, [Call::Hold(car(5, 15, FAST)), keep(5)])?;
+    tell_rows(rt, &desk.answers())
 }
 
-fn main(rt: HostRuntime) -> io::Result<()> {
-    let mut places = [None; 12];
-    let mut desk = Desk::new(1, &mut places);
-    open(&rt, &mut desk)?;
-    two_cars(&rt, &mut desk)?;
-    wait_for_place(&rt, &mut desk)?;
+// The second table gives a hold, which is handed to the first and comes back, and is released where it came from.
+fn mix_up(
+    rt: &HostRuntime,
+    desk: &mut Desk<'_, Every>,
+    other: &mut Desk<'_, Every>,
+) -> anyhow::Result<()> {
+    let heap = rt.alloc();
+    let hold = HoldId {
+        table: SECOND,
+        row: 6,
+    };
+    let given = Vec::from_array(heap, [Call::Hold(car(6, 5, SLOW))])?;
+    other.run(heap, given)?;
+    let handed = Vec::from_array(heap, [Call::Keep(hold)])?;
+    let ran = desk.run_beside(heap, handed, other)?;
+    for reply in &ran.replies {
+        println!(rt;
+            "The hold of table {} on row {} is handed back: refused with number {}.",
+            hold.table,
+            hold.row,
+            reply.number()
+        )?;
+    }
+    println!(rt; "It is released at table {}.", hold.table)?;
+    play(rt, other, [Call::Release(hold)])
+}
+
+// A second table of four places.
+fn second_table(rt: &HostRuntime, desk: &mut Desk<'_, Every>) -> anyhow::Result<()> {
     println!(rt; "A second table gives a hold, which is handed to the first.")?;
-    second_table(&rt, &mut desk)?;
+    let mut places = [None; 4];
+    let mut other = Desk::new(rt.alloc(), SECOND, &mut places);
+    let room = tell_room(rt, SECOND, other.table().room());
+    let mixed = mix_up(rt, desk, &mut other);
+    other.close();
+    room?;
+    mixed
+}
+
+// A row is asked to leave while it is held, and then kept.
+fn leave_early(rt: &HostRuntime, desk: &mut Desk<'_, Every>) -> anyhow::Result<()> {
     println!(rt; "A car for the night is plugged in as row 6, and unplugged while it is held.")?;
-    depart_early(&rt, &mut desk, car(6, 5, NIGHT))?;
-    tell_bounds(&rt, &desk, 6)?;
-    tell_room(&rt, &desk, 1)
+    play(
+        rt,
+        desk,
+        [Call::Hold(car(6, 5, NIGHT)), Call::Withdraw(6), keep(6)],
+    )?;
+    println!(rt; "The bounds of the rows 1 to 6:")?;
+    play(
+        rt,
+        desk,
+        [
+            Call::Bound(1),
+            Call::Bound(2),
+            Call::Bound(3),
+            Call::Bound(4),
+            Call::Bound(5),
+            Call::Bound(6),
+        ],
+    )
+}
+
+// What comes after the meters.
+fn evening(rt: &HostRuntime, desk: &mut Desk<'_, Every>) -> anyhow::Result<()> {
+    open(rt, desk)?;
+    two_cars(rt, desk)?;
+    wait_for_place(rt, desk)?;
+    second_table(rt, desk)?;
+    leave_early(rt, desk)?;
+    tell_room(rt, FIRST, desk.table().room())
+}
+
+fn main(rt: HostRuntime) -> anyhow::Result<()> {
+    let heap = rt.alloc();
+    let mut places = [None; MOST_ROWS];
+    tell_room(&rt, FIRST, places.len())?;
+    println!(rt; "The meters start as row 1.")?;
+    let calls = Vec::from_array(heap, [Call::Hold(meters()), keep(1)])?;
+    let rows = rows_of(heap, &calls)?;
+    let mut none = Vec::new(heap);
+    let opened = Desk::open(heap, FIRST, &mut places, calls, &mut none);
+    none.destroy_empty();
+    let (mut desk, ran) = opened?;
+    let told = tell_replies(&rt, &rows, &ran.replies);
+    let played = evening(&rt, &mut desk);
+    desk.close();
+    told?;
+    played
 }

@@ -1,34 +1,18 @@
-// What is printed of a desk and of its answers.
-use super::desk::Desk;
-use std::io;
-use table::{HoldRefusal, State, WithdrawRefusal};
-
-// A word for a state. `State` is of the crate `table`, which prints nothing, and an `impl Display` of it is refused here. A
-// type around it would be no plainer.
-fn state_word(state: State) -> &'static str {
-    match state {
-        State::Free => "free",
-        State::Held(_) => "held",
-        State::Kept(_) => "kept",
-    }
-}
+// What is printed of replies and of answers.
+use analysis::Answers;
+use runs::Reply;
+use table::HoldRefusal;
 
 // How many rows more the table of this number takes.
-pub(crate) fn tell_room(rt: &HostRuntime, desk: &Desk<'_>, number: u8) -> io::Result<()> {
-    println!(rt; "Table {number} has room for {} rows.", desk.table.room())
-}
-
-pub(crate) fn tell_state(rt: &HostRuntime, desk: &Desk<'_>, number: u32) -> io::Result<()> {
-    println!(rt;
-        "Row {number} is {}.",
-        state_word(desk.table.state_of(number))
-    )
+pub(crate) fn tell_room(rt: &HostRuntime, number: u8, room: usize) -> anyhow::Result<()> {
+    println!(rt; "Table {number} has room for {room} rows.")?;
+    Ok(())
 }
 
 // All rows with what is answered for them, highest first.
-pub(crate) fn tell_rows(rt: &HostRuntime, desk: &Desk<'_>) -> io::Result<()> {
+pub(crate) fn tell_rows(rt: &HostRuntime, answers: &Answers) -> anyhow::Result<()> {
     println!(rt; "The rows, highest first:")?;
-    for answer in desk.answers().rows() {
+    for answer in answers.rows() {
         println!(rt;
             "  row {}: bound {}, vector {}, blocking {}",
             answer.number, answer.bound, answer.vector, answer.blocking
@@ -37,47 +21,50 @@ pub(crate) fn tell_rows(rt: &HostRuntime, desk: &Desk<'_>) -> io::Result<()> {
     Ok(())
 }
 
-fn tell_bound(rt: &HostRuntime, desk: &Desk<'_>, number: u32) -> io::Result<()> {
-    match desk.table.bound(number) {
-        Ok((bound, vector)) => println!(rt;
-            "  row {number} ends within {bound}, by the vector {vector}"
-        ),
-        Err(refusal) => println!(rt;
-            "  row {number}: refused with number {}, there is no such row",
-            refusal.number()
-        ),
-    }
-}
-
-// The bounds of the rows up to this number, asked one by one.
-pub(crate) fn tell_bounds(rt: &HostRuntime, desk: &Desk<'_>, last: u32) -> io::Result<()> {
-    println!(rt; "The bounds of the rows 1 to {last}:")?;
-    for number in 1..=last {
-        tell_bound(rt, desk, number)?;
+// What a call about a row was answered, where it was accepted.
+fn tell_accepted(rt: &HostRuntime, row: u32, reply: Reply) -> anyhow::Result<()> {
+    match reply {
+        Reply::Hold(_) => println!(rt; "Row {row} is held.")?,
+        Reply::Keep(_) => println!(rt; "Row {row} is kept.")?,
+        Reply::Release(_) => println!(rt; "Row {row} is free.")?,
+        Reply::Withdraw(_) => println!(rt; "Row {row} has left.")?,
+        Reply::Bound(Ok((bound, vector))) => println!(rt;
+            "  row {row} ends within {bound}, by the vector {vector}"
+        )?,
+        Reply::Bound(Err(_)) => {}
     }
     Ok(())
 }
 
-pub(crate) fn tell_refusal(rt: &HostRuntime, number: u32, refusal: HoldRefusal) -> io::Result<()> {
-    let why = refusal.number();
-    match refusal {
-        HoldRefusal::Late(late) => println!(rt;
-            "Row {number} is refused with number {why}: row {late} would be late."
-        ),
-        _ => println!(rt; "Row {number} is refused with number {why}."),
+// The same, where it was refused by this number.
+fn tell_refused(rt: &HostRuntime, row: u32, reply: Reply, why: u32) -> anyhow::Result<()> {
+    match reply {
+        Reply::Hold(Err(HoldRefusal::Late(late))) => println!(rt;
+            "Row {row} is refused with number {why}: row {late} would be late."
+        )?,
+        Reply::Hold(_) => println!(rt; "Row {row} is refused with number {why}.")?,
+        Reply::Keep(_) | Reply::Release(_) => println!(rt;
+            "The hold on row {row} is refused with number {why}."
+        )?,
+        Reply::Withdraw(_) => println!(rt; "Row {row} cannot leave: refused with number {why}.")?,
+        Reply::Bound(_) => println!(rt;
+            "  row {row}: refused with number {why}, there is no such row"
+        )?,
     }
+    Ok(())
 }
 
-pub(crate) fn tell_withdrawal(
+// What each call was answered, with the row that it was about.
+pub(crate) fn tell_replies(
     rt: &HostRuntime,
-    number: u32,
-    left: Result<(), WithdrawRefusal>,
-) -> io::Result<()> {
-    match left {
-        Ok(()) => println!(rt; "Row {number} has left."),
-        Err(refusal) => println!(rt;
-            "Row {number} cannot leave: refused with number {}.",
-            refusal.number()
-        ),
+    rows: &[u32],
+    replies: &[Reply],
+) -> anyhow::Result<()> {
+    for (row, reply) in rows.iter().zip(replies) {
+        match reply.number() {
+            0 => tell_accepted(rt, *row, *reply)?,
+            why => tell_refused(rt, *row, *reply, why)?,
+        }
     }
+    Ok(())
 }

@@ -15,6 +15,8 @@ use super::register::Register;
 use analysis::{Answers, Task};
 use demand::Kind;
 use std::alloc::{AllocError, Global};
+use std::error::Error;
+use std::fmt;
 use table::{Hold, HoldRefusal, SpendRefusal, Table};
 
 /// A table and the holds that it gave and that are not spent. They are in hand: one on each row that stands as held. A desk
@@ -42,6 +44,17 @@ pub enum RunRefusal {
     /// There is no memory for the replies or for the holds.
     Memory,
 }
+
+impl fmt::Display for RunRefusal {
+    fn fmt<W: fmt::Write>(&self, f: &mut fmt::Formatter<W>) -> fmt::Result {
+        f.write_str(match self {
+            RunRefusal::OwnHold => "a hold that was handed in is of the table itself",
+            RunRefusal::Memory => "there is no memory for the replies or the holds",
+        })
+    }
+}
+
+impl Error for RunRefusal {}
 
 impl From<AllocError> for RunRefusal {
     ghost from_gives = { λ _ r. r ≡ OutOfMemory };
