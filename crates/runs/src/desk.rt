@@ -20,7 +20,7 @@ use std::fmt;
 use table::{Hold, HoldRefusal, SpendRefusal, Table};
 
 /// A table and the holds that it gave and that are not spent. They are in hand: one on each row that stands as held. A desk
-/// has to be closed, since a hold cannot be let go.
+/// that is let go gives up what is held still.
 pub struct Desk<'a, K: Kind> {
     register: Register<'a, K>,
     holds: Vec<Hold>,
@@ -177,13 +177,8 @@ impl<'a, K: Kind + Drop> Desk<'a, K> {
             ↔ (has_own number (vec_items foreign.old) ≡ true) }
     {
         let mut desk = Desk::new(heap, number, places);
-        match desk.run_with(heap, calls, foreign) {
-            Ok(ran) => Ok((desk, ran)),
-            Err(refusal) => {
-                desk.close();
-                Err(refusal)
-            }
-        }
+        let ran = desk.run_with(heap, calls, foreign)?;
+        Ok((desk, ran))
     }
 
     /// Gives up what is held still: each hold in hand is released, the last one first. The table is answered.
@@ -337,6 +332,12 @@ impl<'a, K: Kind + Drop> Desk<'a, K> {
             let reply = self.make(call, foreign);
             replies.push_reserved(reply);
         }
+    }
+}
+
+impl<K: Kind + Drop> Drop for Desk<'_, K> {
+    fn drop(self) {
+        self.close();
     }
 }
 

@@ -9,6 +9,8 @@
 mod call;
 mod desk;
 mod register;
+#[cfg(test)]
+mod tests;
 
 pub use call::{Call, HoldId, NotHeld, Reply};
 pub use desk::{Desk, Ran, RunRefusal};
