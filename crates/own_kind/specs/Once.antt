@@ -3,10 +3,7 @@
 use Rattle.std.specs.Prelude.{ℕ, cond, ◌==◌}
 use Rattle.std.proofs.Common.{arith}
 use Rattle.demand.specs.Demand.{Demand, Lawful}
-use Rattle.demand.specs.Basic.{every_demand, length_of_job}
-use Rattle.demand.specs.Made.{either_demand}
-use Rattle.demand.specs.declared.periodic.Every.{Every}
-use Rattle.either.specs.declared.Either.{Either}
+use Rattle.demand.specs.Basic.{length_of_job}
 use Rattle.own_kind.specs.declared.once.Once.{Once}
 
 -- a window of 1 or more has the one job, and an empty window has none
@@ -34,7 +31,3 @@ once_lawful c = record {
   work_within_cap = λ w _. grind arith;
   work_covers_own = λ w some _. grind arith;
 }
-
--- what the kind of a row means in this program
-abbrev pub jobs_demand : Either Every Once → Demand
-jobs_demand = either_demand every_demand once_demand

@@ -6,14 +6,12 @@ mod once;
 #[cfg(test)]
 mod tests;
 
-ghost use Rattle.own_kind.specs.Once.{jobs_demand};
-ghost use Rattle.table.specs.Accounted.{IsAccounted};
-
 use analysis::{Row, Task};
 use demand::{Either, Every, Left, Right};
 use once::Once;
+use runs::Register;
 use std::io;
-use table::{HoldRefusal, Table};
+use table::HoldRefusal;
 
 // The kind of a row: jobs that come again and again, or a job that comes once.
 type Jobs = Either<Every, Once>;
@@ -47,19 +45,11 @@ fn contactor_test(job: u32) -> Task<Jobs> {
     task(3, 40, 20, Right(Once { job }))
 }
 
-// Holds a row and keeps it. That `keep` does not refuse the hold is proved, from what `hold` ensures.
-fn take_in(table: &mut Table<Jobs>, task: Task<Jobs>) -> Result<(), HoldRefusal>
-    requires { IsAccounted jobs_demand table.old }
-    ensures { IsAccounted jobs_demand table.new }
-{
-    let hold = table.hold(task.row, task.kind)?;
-    table.keep(hold).unwrap();
-    Ok(())
-}
-
-fn tell_taken(rt: &HostRuntime, number: u32, taken: Result<(), HoldRefusal>) -> io::Result<()> {
-    match taken {
-        Ok(()) => println!(rt; "Row {number} is kept."),
+// Asks for a row, and tells what comes of it.
+fn ask(rt: &HostRuntime, register: &mut Register<Jobs>, task: Task<Jobs>) -> io::Result<()> {
+    let number = task.row.number;
+    match register.take_in(task.row, task.kind) {
+        Ok(_) => println!(rt; "Row {number} is kept."),
         Err(HoldRefusal::Late(late)) => println!(rt;
             "Row {number} is refused: row {late} would be late."
         ),
@@ -67,10 +57,8 @@ fn tell_taken(rt: &HostRuntime, number: u32, taken: Result<(), HoldRefusal>) -> 
     }
 }
 
-fn tell_rows(rt: &HostRuntime, table: &Table<Jobs>) -> io::Result<()>
-    requires { IsAccounted jobs_demand table.now }
-{
-    for answer in table.answers().unwrap().rows() {
+fn tell_rows(rt: &HostRuntime, register: &Register<Jobs>) -> io::Result<()> {
+    for answer in register.answers().rows() {
         println!(rt;
             "  row {}: bound {}, vector {}, blocking {}",
             answer.number, answer.bound, answer.vector, answer.blocking
@@ -81,16 +69,12 @@ fn tell_rows(rt: &HostRuntime, table: &Table<Jobs>) -> io::Result<()>
 
 fn main(rt: HostRuntime) -> io::Result<()> {
     let mut places = [None; 3];
-    let mut table = Table::new(1, &mut places);
-    let taken = take_in(&mut table, meters());
-    tell_taken(&rt, 1, taken)?;
-    let taken = take_in(&mut table, car());
-    tell_taken(&rt, 2, taken)?;
+    let mut register = Register::new(1, &mut places);
+    ask(&rt, &mut register, meters())?;
+    ask(&rt, &mut register, car())?;
     println!(rt; "A test of 6 ticks asks:")?;
-    let taken = take_in(&mut table, contactor_test(6));
-    tell_taken(&rt, 3, taken)?;
+    ask(&rt, &mut register, contactor_test(6))?;
     println!(rt; "A test of 4 ticks asks:")?;
-    let taken = take_in(&mut table, contactor_test(4));
-    tell_taken(&rt, 3, taken)?;
-    tell_rows(&rt, &table)
+    ask(&rt, &mut register, contactor_test(4))?;
+    tell_rows(&rt, &register)
 }

@@ -1,23 +1,22 @@
--- A row line that is refused, and one whose row is held and kept. Assumes nothing.
-use Rattle.std.proofs.Common.{◌≡◌, ℕ, ◌-◌, Bool, cond, ◌≢◌, List, [], ◌∷◌, ◌++◌, length, Ok, sym, ap, ◌∙◌, subst}
+-- A row line that is refused, and one whose row is taken in. Assumes nothing.
+use Rattle.std.proofs.Common.{◌≡◌, ℕ, ◌-◌, Bool, true, cond, ◌≢◌, List, [], ◌∷◌, ◌++◌, length, Ok, sym, ap, ◌∙◌, subst, arith}
+use Rattle.std.proofs.lemmas.Bool.Decides.{nat_tests}
 use Rattle.analysis.specs.declared.Row.{Row}
 use Rattle.analysis.specs.declared.Task.{Task}
-use Rattle.analysis.specs.Ranks.{Claim, loads, ranked}
+use Rattle.analysis.specs.Ranks.{Claim}
 use Rattle.demand.specs.declared.jitter.Delayed.{Delayed}
-use Rattle.demand.specs.Demand.{Demand}
 use Rattle.demand.specs.Refusals.{first, delayed_checks}
-use Rattle.table.specs.declared.Hold.{Hold as Token}
 use Rattle.table.specs.declared.Table.{Table}
 use Rattle.analysis.specs.declared.answers.Answers.{Answers}
-use Rattle.analysis.specs.Judge.{Answered, answers_of}
-use Rattle.table.specs.Account.{Account, Accepted, Holds, HoldsAnswered, Spends, number_of, with_row, with_kept}
+use Rattle.table.specs.Account.{Account, bears, number_of, with_row, with_kept}
 use Rattle.table.specs.Agreement.{AgreesWith}
-use Rattle.table.proofs.InHand.{Turns, given_bears}
+use Rattle.runs.specs.Passing.{KeepsRow, hold_on}
 use Rattle.demand.specs.declared.speed.Factor.{Factor}
+use Rattle.demand.specs.declared.speed.Slowed.{Slowed}
 use Rattle.planfile.specs.declared.fault.Blame.{Blame}
 use Rattle.planfile.specs.Fault.{nothing, by, first_blame}
 use Rattle.planfile.specs.Checks.{Jobs, row_of, task_of, word_checks, number_checks, number_in, line_checks, blaming_none, jobs_checks, jobs_demand, entry_of, row_demand}
-use Rattle.planfile.specs.Reading.{taking, claim_in}
+use Rattle.planfile.specs.Reading.{taking, claim_in, RowsKept}
 use Rattle.std.proofs.lemmas.List.{map-append, append_assoc}
 use Rattle.planfile.proofs.Blames.{Numbered, passed, stopped, numbered_append, numbered_words, numbered_numbers, numbered_jobs, first_of_none}
 
@@ -94,28 +93,18 @@ module _ (fs : List (List ℕ)) (row : Row) (delay : ℕ) (jobs : Jobs) (read : 
       λ i. record { row = (read i).0; kind = record { kind = jobs_are i; delay = delay_are i } }
 
 -- a row that was held and kept is one row more, and no hold is left
-kept : (rows : List Claim) (c : Claim) (h : Token) → Accepted (taking rows) c h → with_kept (with_row (taking rows) c) h ≡ taking (c ∷ rows)
-kept rows c h accepted =
-    ap (λ b. record { number = 0; room = 12; rows = c ∷ rows; holds = cond b [] (record { table = 0; row = number_of c } ∷ []) }) (given_bears (taking rows) c h accepted)
+kept : (rows : List Claim) (c : Claim) → with_kept (with_row (taking rows) c) (hold_on (taking rows) c) ≡ taking (c ∷ rows)
+kept rows c =
+    ap (λ b. record { number = 0; room = 12; rows = c ∷ rows; holds = cond b [] (record { table = 0; row = number_of c } ∷ []) }) (its_own (number_of c))
+  where
+    its_own : (n : ℕ) → bears 0 n (record { table = 0; row = n }) ≡ true
+    its_own n = grind (arith, nat_tests)
 
-module _ {K : Type 0} (demand : K → Demand) (t u v : Table K) (rows : List Claim) (c : Claim) (h : Token) (all : Answers) where
-  -- what a hold that is accepted does to each account, and what is answered with it
-  abbrev pub HeldAnswered : Type 0
-  HeldAnswered = Turns demand t u (λ a b. HoldsAnswered a c (Ok (h, all)) b)
-
-  -- the same without the answers
-  pub held_only : HeldAnswered → Turns demand t u (λ a b. Holds a c (Ok h) b)
-  held_only hold a agrees =
-      let p = hold a agrees in
-      (p.0, p.1.0, p.2)
-
-  -- after both calls the account has the row, and the answers are of all its rows
-  pub held_and_kept : HeldAnswered → Turns demand u v (λ a b. Spends a h (with_kept a h) (Ok tt) b) → AgreesWith demand (taking rows) t → Accepted (taking rows) c h × AgreesWith demand (taking (c ∷ rows)) v × Answered (loads (ranked (c ∷ rows))) (answers_of all)
-  held_and_kept hold keep agrees =
-      let p = hold (taking rows) agrees in
-      let q = keep p.0 p.2 in
-      let e : q.0 ≡ taking (c ∷ rows) = q.1.1 ∙ (ap (λ (a : Account). with_kept a h) p.1.0.1 ∙ kept rows c h p.1.0.0) in
-      (p.1.0.0, subst (λ (a : Account). AgreesWith demand a v) e q.2, p.1.1)
+-- a row that was taken in is kept with those before it, and answered with them
+pub taken_in : (rows : List Claim) (c : Claim) (all : Answers) (t : Table (Slowed (Delayed Jobs))) → ((b : Account) × KeepsRow (taking rows) c (Ok all) b × AgreesWith row_demand b t) → RowsKept (c ∷ rows) t all
+taken_in rows c all t p =
+    let same : p.0 ≡ taking (c ∷ rows) = p.1.1 ∙ kept rows c in
+    record { agrees = subst (λ (a : Account). AgreesWith row_demand a t) same p.2; answered = p.1.0.1 }
 
 -- the row that is held, with the meaning of its kind
 abbrev pub held_claim : Factor → Task (Delayed Jobs) → Claim

@@ -2,20 +2,31 @@
 -- How to read it: from one row line (`RowTaken`, `RowRefused`) to all of them (`RowsRead`), with the clock line (`LinesRead`), with the checks of
 -- the whole file (`FileRead`). Each relates what is read to what it gives: rows, the last first, or a blame.
 use Rattle.std.specs.Prelude.{◌≡◌, ℕ, ◌+◌, Bool, not, ◌||◌, ◌≢◌, ◌⊎◌, List, [], ◌∷◌, length, drop, Ok, Err, Result, nat_lt, slice_index_or}
-use Rattle.analysis.specs.Ranks.{Claim}
+use Rattle.analysis.specs.declared.answers.Answers.{Answers}
+use Rattle.analysis.specs.Judge.{Answered, answers_of}
+use Rattle.analysis.specs.Ranks.{Claim, loads, ranked}
 use Rattle.table.specs.declared.Hold.{Hold as Token}
 use Rattle.table.specs.declared.HoldRefusal.{HoldRefusal}
+use Rattle.table.specs.declared.Table.{Table}
 use Rattle.table.specs.Account.{Account, Accepted, Refused}
+use Rattle.table.specs.Agreement.{AgreesWith}
+use Rattle.demand.specs.declared.jitter.Delayed.{Delayed}
 use Rattle.demand.specs.declared.speed.Factor.{Factor}
+use Rattle.demand.specs.declared.speed.Slowed.{Slowed}
 use Rattle.planfile.specs.declared.fault.LineFault.TheVariants.{Hold}
 use Rattle.planfile.specs.declared.fault.Blame.{Blame}
 use Rattle.planfile.specs.Fault.{nothing, by, at_line, first_blame, line_blame}
 use Rattle.planfile.specs.Text.{lines, fields, ended}
-use Rattle.planfile.specs.Checks.{clock_checks, clock_of, line_checks, entry_of, claim_of}
+use Rattle.planfile.specs.Checks.{Jobs, clock_checks, clock_of, line_checks, entry_of, claim_of, row_demand}
 
 -- the account of the file's own table, with room for twelve rows, where these are kept and none is held
 abbrev pub taking : List Claim → Account
 taking rows = record { number = 0; room = 12; rows = rows; holds = [] }
+
+-- The table has these rows, all kept and none held, and the answers are those of all of them.
+pub record RowsKept (rows : List Claim) (t : Table (Slowed (Delayed Jobs))) (all : Answers) : Type 0 where
+  pub agrees : AgreesWith row_demand (taking rows) t
+  pub answered : Answered (loads (ranked rows)) (answers_of all)
 
 -- the row of a row line
 abbrev pub claim_in : Factor → List (List ℕ) → Claim

@@ -1,12 +1,11 @@
 // Loading a plan file.
 ghost use Rattle.std.specs.Prelude.{◌≡◌, ◌+◌, ◌<◌, ◌≤◌, true, List, [], length, IfOk, Ok, Err, MatchResult};
-ghost use Rattle.analysis.specs.Judge.{Answered, answers_of};
-ghost use Rattle.analysis.specs.Ranks.{Claim, loads, ranked};
+ghost use Rattle.analysis.specs.Ranks.{Claim};
 ghost use Rattle.table.specs.Agreement.{AgreesWith};
 ghost use Rattle.planfile.specs.Text.{ended};
 ghost use Rattle.planfile.specs.Fault.{blame, nothing, first_blame};
 ghost use Rattle.planfile.specs.Checks.{row_demand};
-ghost use Rattle.planfile.specs.Reading.{taking, file_checks, LinesRead};
+ghost use Rattle.planfile.specs.Reading.{taking, file_checks, LinesRead, RowsKept};
 ghost use Rattle.planfile.specs.Loading.{Loaded, AnsweredText};
 ghost use Rattle.planfile.specs.Laws.{InFileOrder, OneAnswer, RoundTrip};
 
@@ -15,7 +14,8 @@ use super::row::{RowKind, read_clock, take_row};
 use super::writing::{write_refusal, write_report};
 use super::{Fault, LONGEST_FILE, REPORT_MEMORY};
 use analysis::Answers;
-use table::{MOST_ROWS, Table};
+use runs::Register;
+use table::MOST_ROWS;
 
 // Checks what can be said before a line is read.
 fn check_file(file: &[u8], room: usize) -> Result<(), Fault>
@@ -40,20 +40,23 @@ fn number_of_row(index: usize) -> u32
 }
 
 // Takes the rows of a file into a table, in the order of the file. The answers are those of all rows.
-fn take_lines(file: &[u8], table: &mut Table<RowKind>) -> Result<Answers, Fault>
+fn take_lines(file: &[u8], register: &mut Register<RowKind>) -> Result<Answers, Fault>
     requires short { length file.now ≤ 4096 }
     requires ended { ended file.now ≡ true }
-    requires empty { AgreesWith row_demand (taking []) table.old }
-    ensures { MatchResult result (λ all. (rows : List Claim) × LinesRead file.now (Ok rows) × AgreesWith row_demand (taking rows) table.new × Answered (loads (ranked rows)) (answers_of all)) (λ f. LinesRead file.now (Err (blame f))) }
+    requires empty { AgreesWith row_demand (taking []) register.old.table }
+    ensures { MatchResult result
+        (λ all. (rows : List Claim) × LinesRead file.now (Ok rows)
+        × RowsKept rows register.new.table all)
+        (λ f. LinesRead file.now (Err (blame f))) }
 {
     let mut reader = Reader::new(file);
     let first = reader.next().unwrap();
     let clock = read_clock(&first).map_err(|fault| Fault::Line(1, fault))?;
     // where no row follows
-    let mut answers = table.answers().unwrap();
+    let mut answers = register.answers();
     for (index, line) in reader.enumerate() {
         let number = number_of_row(index);
-        answers = take_row(&line, clock, table).map_err(|fault| Fault::Line(number, fault))?;
+        answers = take_row(&line, clock, register).map_err(|fault| Fault::Line(number, fault))?;
     }
     Ok(answers)
 }
@@ -68,8 +71,8 @@ pub fn load(file: &[u8], report: &mut [u8]) -> Result<usize, Fault>
 {
     check_file(file, report.len())?;
     let mut places = [None; MOST_ROWS];
-    let mut table = Table::new(0, &mut places);
-    let answers = take_lines(file, &mut table)?;
+    let mut register = Register::new(0, &mut places);
+    let answers = take_lines(file, &mut register)?;
     Ok(write_report(answers.rows(), report))
 }
 

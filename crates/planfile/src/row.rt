@@ -1,12 +1,11 @@
 // Clock lines and row lines, from fields to a clock and to rows of a table.
 ghost use Rattle.std.specs.Prelude.{◌≡◌, ◌-◌, ◌<◌, ◌≤◌, List, ◌∷◌, ◌++◌, length, MatchResult};
-ghost use Rattle.analysis.specs.Judge.{Answered, answers_of};
-ghost use Rattle.analysis.specs.Ranks.{Claim, loads, ranked};
+ghost use Rattle.analysis.specs.Ranks.{Claim};
 ghost use Rattle.table.specs.Agreement.{AgreesWith};
 ghost use Rattle.planfile.specs.Text.{field, word_of};
 ghost use Rattle.planfile.specs.Fault.{line_blame};
 ghost use Rattle.planfile.specs.Checks.{clock_checks, clock_of, word_checks, number_checks, number_in, numbers_in, fields_due, row_of, jobs_in, jobs_checks, blaming_none, line_checks, task_of, row_demand, Reads};
-ghost use Rattle.planfile.specs.Reading.{taking, claim_in, RowTaken, RowRefused};
+ghost use Rattle.planfile.specs.Reading.{taking, claim_in, RowTaken, RowRefused, RowsKept};
 ghost use Rattle.planfile.specs.Cut.{Keeps};
 
 use super::LineFault;
@@ -15,7 +14,7 @@ use super::reader::Line;
 use super::word::{Word, read_word};
 use analysis::{Answers, Row, Task};
 use demand::{Delayed, Either, Every, Factor, Heavy, Left, Right, Slowed};
-use table::Table;
+use runs::Register;
 
 // The jobs of a row.
 type Jobs = Either<Every, Heavy>;
@@ -129,21 +128,22 @@ fn read_row(line: &Line) -> Result<Task<Delayed<Jobs>>, LineFault>
     Ok(Task { row, kind })
 }
 
-// Holds the row of a row line, and keeps it. The answers are those of all rows in the table then.
+// Takes in the row of a row line. The answers are those of all rows in the table then.
 pub(crate) fn take_row(
     line: &Line,
     clock: Factor,
-    table: &mut Table<RowKind>,
+    register: &mut Register<RowKind>,
 ) -> Result<Answers, LineFault>
-    requires { (rows : List Claim) × AgreesWith row_demand (taking rows) table.old }
-    ensures { (rows : List Claim) → AgreesWith row_demand (taking rows) table.old → MatchResult result (λ all. RowTaken clock rows line.now × AgreesWith row_demand (taking (claim_in clock line.now ∷ rows)) table.new × Answered (loads (ranked (claim_in clock line.now ∷ rows))) (answers_of all)) (λ f. RowRefused clock rows line.now (line_blame f)) }
+    ensures { (rows : List Claim) → AgreesWith row_demand (taking rows) register.old.table
+        → MatchResult result
+        (λ all. RowTaken clock rows line.now
+        × RowsKept (claim_in clock line.now ∷ rows) register.new.table all)
+        (λ f. RowRefused clock rows line.now (line_blame f)) }
 {
     let Task { row, kind } = read_row(line)?;
     let kind = Slowed {
         kind,
         factor: clock,
     };
-    let (hold, answers) = table.hold_answered(row, kind)?;
-    table.keep(hold).unwrap();
-    Ok(answers)
+    Ok(register.take_in(row, kind)?)
 }

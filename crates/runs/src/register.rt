@@ -1,7 +1,7 @@
 // A table that only its own calls have changed, with no hold in hand.
-ghost use Rattle.std.specs.Prelude.{◌≡◌, ℕ, [], Ok, IfOk, MatchResult};
+ghost use Rattle.std.specs.Prelude.{◌≡◌, ℕ, min, [], length, Ok, IfOk, MatchResult};
 ghost use Rattle.analysis.specs.Judge.{InTime, answers_of};
-ghost use Rattle.table.specs.Account.{Account};
+ghost use Rattle.table.specs.Account.{Account, fresh};
 ghost use Rattle.table.specs.Accounted.{IsAccounted};
 ghost use Rattle.table.specs.Agreement.{AgreesWith};
 ghost use Rattle.table.specs.History.{Continues, HasHistory, rows_at};
@@ -27,6 +27,7 @@ pub struct Register<'a, K: Kind> {
 impl<'a, K: Kind + Drop> Register<'a, K> {
     /// An empty table over row memory, of which it uses twelve places at most. What stood there is let go.
     pub fn new(number: u8, places: &'a mut [Option<Task<K>>]) -> Register<'a, K>
+        ensures agrees { AgreesWith K.demand (fresh number (min (length places.old) 12)) result.table }
         ensures history { HasHistory K.demand [] result.table }
         ensures memory { Emptied places.old result.table.places.now }
         ensures number { result.table.number ≡ number }

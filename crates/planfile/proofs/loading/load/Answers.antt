@@ -25,7 +25,7 @@ write_report-requires c =
     let text = c.args.file.now in
     let taken = c.in_ok-answers.ensures in
     record {
-      fits = fits text taken.0 c.rows.result.now taken.1 (listed taken.0 c.in_ok-answers.answers c.rows.result.now taken.3 c.rows.ensures);
+      fits = fits text taken.0 c.rows.result.now taken.1 (listed taken.0 c.in_ok-answers.answers c.rows.result.now taken.2.answered c.rows.ensures);
       room = long_enough text (length c.args.report.now) c.in_ok-check_file.ensures;
     }
 
@@ -35,7 +35,7 @@ returns c =
     let before = c.args.report.now in
     let after = c.write_report.new.out in
     let taken = c.in_ok-answers.ensures in
-    let given = listed taken.0 c.in_ok-answers.answers c.rows.result.now taken.3 c.rows.ensures in
-    let loaded = by_report text before taken.0 c.rows.result.now c.write_report.result after c.in_ok-check_file.ensures taken.1 taken.2.sound.lawful given c.write_report.ensures in
+    let given = listed taken.0 c.in_ok-answers.answers c.rows.result.now taken.2.answered c.rows.ensures in
+    let loaded = by_report text before taken.0 c.rows.result.now c.write_report.result after c.in_ok-check_file.ensures taken.1 taken.2.agrees.sound.lawful given c.write_report.ensures in
     let r = Ok c.write_report.result in
     record { loaded = loaded; in_file_order = in_file_order text before r after loaded; one_answer = one_answer text before r after loaded; round_trip = round_trip text before r after loaded }
