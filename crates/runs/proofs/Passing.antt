@@ -18,7 +18,9 @@ use Rattle.table.proofs.Changes.{without_none}
 use Rattle.table.proofs.InHand.{Turns, none_has, not_refused, same_numbers, taken}
 use Rattle.table.proofs.Parts.{unspent_row}
 use Rattle.table.proofs.Shared.{passed}
-use Rattle.runs.specs.Passing.{GivesRowUp, KeepsRow, hold_on}
+use Rattle.runs.specs.Passing.{GivesRowUp, KeepsRow, Passes, hold_on}
+use Rattle.runs.specs.declared.call.Way.{Way}
+use Rattle.runs.specs.declared.call.Way.TheVariants.{GiveUp, KeepRow}
 
 -- a row that passes the checks has no hold yet
 none_unspent : (a : Account) → Sound a → (c : Claim) → first (hold_checks a c) ≡ 0 → (table : ℕ) → unspent table (number_of c) a.holds ≡ false
@@ -81,3 +83,8 @@ module _ {K : Type 0} (demand : K → Demand) (t u v : Table K) (c : Claim) (h :
       let p = held a agrees in
       let q = both (λ x. with_released x h) r spends ok a agrees in
       (q.0, ((accepted_so a c h p.1.0.0, p.1.1), q.1 ∙ ap (with_released (with_row a c)) (given_is a c h p.1.0.0) ∙ out_again a agrees.sound c p.1.0.0.passes), q.2)
+
+-- in both ways a refusal is that of the hold
+pub refused_alike : (way : Way) (a : Account) (c : Claim) (e : HoldRefusal) (b : Account) → HoldsAnswered a c (Err e) b → Passes way a c (Err e) b
+refused_alike KeepRow a c e b refused = refused
+refused_alike GiveUp a c e b refused = refused

@@ -6,6 +6,8 @@ use Rattle.analysis.specs.Judge.{Answered, answers_of}
 use Rattle.analysis.specs.Ranks.{Claim, ranked, loads}
 use Rattle.table.specs.declared.Hold.{Hold}
 use Rattle.table.specs.declared.HoldRefusal.{HoldRefusal}
+use Rattle.runs.specs.declared.call.Way.{Way}
+use Rattle.runs.specs.declared.call.Way.TheVariants.{KeepRow, GiveUp}
 use Rattle.table.specs.Account.{Account, Accepted, Refused, number_of, with_row, with_kept}
 
 -- the hold that the account gives on a row
@@ -25,3 +27,8 @@ KeepsRow a c (Err e) b = Refused a c e × (b ≡ a)
 abbrev pub GivesRowUp : Account → Claim → Result Answers HoldRefusal → Account → Type 0
 GivesRowUp a c (Ok all) b = AcceptedWith a c all × (b ≡ a)
 GivesRowUp a c (Err e) b = Refused a c e × (b ≡ a)
+
+-- the same, by the way in which the hold was spent
+abbrev pub Passes : Way → Account → Claim → Result Answers HoldRefusal → Account → Type 0
+Passes KeepRow = KeepsRow
+Passes GiveUp = GivesRowUp

@@ -9,7 +9,7 @@ ghost use Rattle.table.specs.Memory.{Emptied};
 ghost use Rattle.table.specs.Runs.{holding, withdrawing, bounding};
 ghost use Rattle.runs.specs.Calls.{claim_of, spending};
 ghost use Rattle.runs.specs.Holds.{SameHeld, GivesHoldOn, SpendsHoldOn, HandsBack};
-ghost use Rattle.runs.specs.Passing.{KeepsRow, GivesRowUp};
+ghost use Rattle.runs.specs.Passing.{KeepsRow, GivesRowUp, Passes};
 
 use super::call::Way;
 use analysis::{Answers, Row, Task};
@@ -66,9 +66,7 @@ impl<'a, K: Kind + Drop> Register<'a, K> {
             → (b : Account) × KeepsRow a (record { row = row; demand = K.demand kind }) result b
             × AgreesWith K.demand b self.new.table }
     {
-        let (hold, answers) = self.table.hold_answered(row, kind)?;
-        self.table.keep(hold).unwrap();
-        Ok(answers)
+        self.pass(row, kind, Way::KeepRow)
     }
 
     /// Holds a row and at once gives it up. The answers are those of all rows with it. Nothing is left behind.
@@ -77,8 +75,20 @@ impl<'a, K: Kind + Drop> Register<'a, K> {
             → (b : Account) × GivesRowUp a (record { row = row; demand = K.demand kind }) result b
             × AgreesWith K.demand b self.new.table }
     {
+        self.pass(row, kind, Way::GiveUp)
+    }
+
+    // Holds a row and at once spends its hold.
+    fn pass(&mut self, row: Row, kind: K, way: Way) -> Result<Answers, HoldRefusal>
+        ensures { (a : Account) → AgreesWith K.demand a self.old.table
+            → (b : Account) × Passes way a (record { row = row; demand = K.demand kind }) result b
+            × AgreesWith K.demand b self.new.table }
+    {
         let (hold, answers) = self.table.hold_answered(row, kind)?;
-        self.table.release(hold).unwrap();
+        match way {
+            Way::KeepRow => self.table.keep(hold).unwrap(),
+            Way::GiveUp => self.table.release(hold).unwrap(),
+        }
         Ok(answers)
     }
 
