@@ -174,13 +174,6 @@ fn spent(way: Way, hold: Bears, reply: runs::Reply) -> Reply {
     }
 }
 
-// A list of one call.
-fn list_of(heap: Global, call: Call<TwoLayers>) -> Result<Vec<Call<TwoLayers>>, AllocError> {
-    let mut calls = Vec::new(heap);
-    calls.push(call)?;
-    Ok(calls)
-}
-
 // The reply to the one call of a list.
 fn one_reply(heap: Global, ran: &Ran) -> Result<runs::Reply, Halt> {
     match ran.replies.as_slice() {
@@ -198,7 +191,7 @@ fn run_one(
     desk: &mut Desk<'_, TwoLayers>,
     call: Call<TwoLayers>,
 ) -> Result<runs::Reply, Halt> {
-    let calls = list_of(heap, call)?;
+    let calls = vec![in heap; call]?;
     one_reply(heap, &desk.run(heap, calls)?)
 }
 
@@ -270,7 +263,7 @@ impl<'a> Watched<'a> {
         let account = other.account.spend(heap, way, hold)?;
         self.turns.retain(|other| *other != hold);
         self.turns.push(hold)?;
-        let calls = list_of(heap, spending(way, hold))?;
+        let calls = vec![in heap; spending(way, hold)]?;
         let ran = other.desk.run_beside(heap, calls, &mut self.desk)?;
         Ok(Replies {
             table: spent(way, hold, one_reply(heap, &ran)?),
