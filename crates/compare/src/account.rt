@@ -97,6 +97,11 @@ impl Account {
         self.found.as_slice()
     }
 
+    // The holds that are not spent, in the order in which they were given.
+    pub(crate) fn unspent(&self) -> &[Bears] {
+        self.unspent.as_slice()
+    }
+
     fn has_row(&self, number: u32) -> bool {
         self.rows.iter().any(|row| row.number == number)
     }

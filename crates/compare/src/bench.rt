@@ -5,7 +5,7 @@ use super::entering::{LAST_NUMBER, entering_row};
 use super::making::Weight;
 use super::plain::Plain;
 use super::random::Random;
-use std::alloc::{AllocError, Global};
+use std::alloc::Global;
 use std::fmt;
 
 // The first or the second of the two tables.
@@ -76,7 +76,7 @@ fn some_number(random: &mut Random, account: &Account) -> u32 {
 }
 
 // Spends a hold of the one table, if there is one, with that table or with the other one. The two have different numbers, and
-// only such tables can tell their holds apart: the numbers are compared since `hand_to` asks for it.
+// only such tables can tell their holds apart: a desk refuses to be handed a hold with its own number.
 fn spend_from(
     heap: Global,
     random: &mut Random,
@@ -84,23 +84,24 @@ fn spend_from(
     strays: bool,
     from: &mut Watched<'_>,
     to: &mut Watched<'_>,
-) -> Result<Option<Step>, AllocError> {
-    let Some(place) = random.place(from.desk.count()) else {
+) -> Result<Option<Step>, Halt> {
+    let Some(place) = random.place(from.turns.len()) else {
         return Ok(None);
     };
+    let hold = from.turns[place];
     let way = random.choice(&[Way::Keep, Way::Release]);
-    let call = Call::Spend(way, from.desk.bears(place));
-    let step = if strays && from.desk.number() != to.desk.number() {
+    let call = Call::Spend(way, hold);
+    let step = if strays && from.desk.table().number() != to.desk.table().number() {
         Step {
             side: side.other(),
             call,
-            replies: from.hand_to(to, heap, way, place)?,
+            replies: from.hand_to(to, heap, way, hold)?,
         }
     } else {
         Step {
             side,
             call,
-            replies: from.spend(heap, way, place)?,
+            replies: from.spend(heap, way, hold)?,
         }
     };
     Ok(Some(step))
@@ -143,7 +144,7 @@ impl<'a> Bench<'a> {
         self.second.agrees(heap)
     }
 
-    fn hold(&mut self, heap: Global, random: &mut Random, side: Side) -> Result<Step, AllocError> {
+    fn hold(&mut self, heap: Global, random: &mut Random, side: Side) -> Result<Step, Halt> {
         let row = entering_row(random, self.weight);
         let replies = self.at(side).hold(heap, &row)?;
         Ok(Step {
@@ -160,7 +161,7 @@ impl<'a> Bench<'a> {
         random: &mut Random,
         side: Side,
         strays: bool,
-    ) -> Result<Option<Step>, AllocError> {
+    ) -> Result<Option<Step>, Halt> {
         let first = &mut self.first;
         let second = &mut self.second;
         match side {
@@ -169,12 +170,7 @@ impl<'a> Bench<'a> {
         }
     }
 
-    fn withdraw(
-        &mut self,
-        heap: Global,
-        random: &mut Random,
-        side: Side,
-    ) -> Result<Step, AllocError> {
+    fn withdraw(&mut self, heap: Global, random: &mut Random, side: Side) -> Result<Step, Halt> {
         let watched = self.at(side);
         let number = some_number(random, &watched.account);
         let replies = watched.withdraw(heap, number)?;
@@ -185,18 +181,19 @@ impl<'a> Bench<'a> {
         })
     }
 
-    fn bound(&mut self, random: &mut Random, side: Side) -> Step {
+    fn bound(&mut self, heap: Global, random: &mut Random, side: Side) -> Result<Step, Halt> {
         let watched = self.at(side);
         let number = some_number(random, &watched.account);
-        Step {
+        let replies = watched.bound(heap, number)?;
+        Ok(Step {
             side,
             call: Call::Bound(number),
-            replies: watched.bound(number),
-        }
+            replies,
+        })
     }
 
     // Makes any call.
-    fn some_call(&mut self, heap: Global, random: &mut Random) -> Result<Step, AllocError> {
+    fn some_call(&mut self, heap: Global, random: &mut Random) -> Result<Step, Halt> {
         let side = if random.one_in(4) {
             Side::Second
         } else {
@@ -210,7 +207,7 @@ impl<'a> Bench<'a> {
         };
         match random.below(turns) {
             0 | 1 => self.withdraw(heap, random, side),
-            2 => Ok(self.bound(random, side)),
+            2 => self.bound(heap, random, side),
             3..=5 => match self.spend(heap, random, side, strays)? {
                 Some(step) => Ok(step),
                 None => self.hold(heap, random, side),
@@ -234,7 +231,7 @@ impl<'a> Bench<'a> {
         steps: &mut Vec<Step>,
         side: Side,
     ) -> Result<(), Halt> {
-        for _ in 0..self.at(side).desk.count() {
+        for _ in 0..self.at(side).turns.len() {
             if let Some(step) = self.spend(heap, random, side, false)? {
                 self.note(heap, steps, step)?;
             }

@@ -1,8 +1,7 @@
 // Lists of calls of two tables, to each of which holds of the other are handed too.
 use super::account::Account;
 use super::bench::{Bench, Step};
-use super::calls::{Halt, Watched, agree};
-use super::desk::Place;
+use super::calls::{Halt, Place, Watched, agree};
 use super::entering::entering_row;
 use super::making::Weight;
 use super::plain::Plain;
@@ -107,11 +106,16 @@ fn tell(
     let Err(halt) = compared else {
         return Ok(());
     };
+    let Case { seed, index } = case;
     let (table, account) = match halt {
         Halt::NoMemory(error) => return Err(anyhow::Error::from(error)),
+        Halt::OwnHold => {
+            return Err(anyhow!(
+                "list {index} of seed {seed}: a hold of the other table is taken for an own one"
+            ));
+        }
         Halt::Differs { table, account } => (table, account),
     };
-    let Case { seed, index } = case;
     let [first, second] = accounts;
     println!(rt; "List {index} of seed {seed}: the account answers otherwise.")?;
     println!(rt; "First: {first}. Second: {second}. The calls, with what the account answers:")?;

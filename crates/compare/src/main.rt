@@ -7,7 +7,6 @@ mod bench;
 mod calls;
 mod checks;
 mod damage;
-mod desk;
 mod entering;
 mod files;
 mod lists;

@@ -1,2 +1,0 @@
--- What the contracts of this crate speak of: each module is the file of that name beside this one.
-pub mod Desk
