@@ -1,7 +1,7 @@
 -- Which rows stand as held after a call. Assumes nothing.
-use Rattle.std.proofs.Common.{◌≡◌, ℕ, min, length, Bool, true, false, eqb, not, ◌&&◌, ◌||◌, MatchResult, Ok, Err, Result, sym, refl, ap, ◌∙◌, subst, inl, inr, arith, eqb-true}
+use Rattle.std.proofs.Common.{◌≡◌, ℕ, min, length, Bool, true, false, eqb, not, ◌&&◌, ◌||◌, MatchResult, Ok, Err, Result, sym, ap, ◌∙◌, subst, inl, inr, arith, eqb-true}
 use Rattle.std.proofs.Math.Path.{ap₂}
-use Rattle.std.proofs.Math.Logic.{∥∥₁_elim, ∥∥₁_map}
+use Rattle.std.proofs.Math.Logic.{∥∥₁_elim}
 use Rattle.std.specs.Coded.{Coded-set, coded_bool, coded_ℕ}
 use Rattle.std.proofs.lemmas.Bool.Decides.{nat_tests}
 use Rattle.std.proofs.lemmas.Bool.{cases_Bool, both_ways, false_from_ne_true}
@@ -14,7 +14,7 @@ use Rattle.table.specs.declared.SpendRefusal.{SpendRefusal}
 use Rattle.table.specs.declared.SpendRefusal.TheVariants.{NotHeld}
 use Rattle.table.specs.declared.WithdrawRefusal.{WithdrawRefusal}
 use Rattle.table.specs.declared.Table.{Table}
-use Rattle.table.specs.Account.{Account, Holds, Spends, Withdraws, fresh, handed_back, has_number, number_of, spend_checks, spent, unspent, with_row, with_withdrawn}
+use Rattle.table.specs.Account.{Account, Holds, Spends, Withdraws, fresh, handed_back, number_of, spend_checks, spent, unspent, with_row, with_withdrawn}
 use Rattle.table.specs.Accounted.{IsAccounted}
 use Rattle.table.specs.Agreement.{AgreesWith}
 use Rattle.table.specs.History.{fresh_of}

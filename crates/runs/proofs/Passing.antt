@@ -1,5 +1,5 @@
 -- A row that is held and at once kept, or at once given up. Assumes nothing.
-use Rattle.std.proofs.Common.{◌≡◌, ◌≢◌, ℕ, true, false, eqb, List, [], ◌∷◌, IsOk, Ok, Err, Result, sym, refl, ap, ◌∙◌, subst, arith}
+use Rattle.std.proofs.Common.{◌≡◌, ℕ, true, false, List, [], ◌∷◌, IsOk, Ok, Err, Result, refl, ap, ◌∙◌, subst, arith}
 use Rattle.std.proofs.Math.Path.{ap₂}
 use Rattle.std.proofs.lemmas.Bool.Decides.{nat_tests}
 use Rattle.std.proofs.lemmas.Bool.{eq-eqb, false_from_ne_true}
@@ -12,7 +12,7 @@ use Rattle.table.specs.declared.HoldRefusal.{HoldRefusal}
 use Rattle.table.specs.declared.SpendRefusal.{SpendRefusal}
 use Rattle.table.specs.declared.Table.{Table}
 use Rattle.table.specs.Account.{Account, Accepted, Bears, bears, HoldsAnswered, Spends, hold_checks, number_of, spent, unspent, with_kept, with_released, with_row, without}
-use Rattle.table.specs.Accounted.{IsAccounted, IsHolding}
+use Rattle.table.specs.Accounted.{IsAccounted}
 use Rattle.table.specs.Agreement.{AgreesWith, Sound}
 use Rattle.table.proofs.Changes.{without_none}
 use Rattle.table.proofs.InHand.{Turns, none_has, not_refused, same_numbers, taken}

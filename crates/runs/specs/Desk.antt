@@ -1,7 +1,7 @@
 -- A desk, and what is promised of the calls that it runs. Assumes nothing.
 -- How to read it: a desk d has a table and the holds in hand. `calls` are run on it, `ran` is what they answered, and es are the calls that its
 -- table had been through before, with their answers, the last one first. `demand` is what values of the kind K mean.
-use Rattle.std.specs.Prelude.{◌≡◌, ◌≢◌, ℕ, List}
+use Rattle.std.specs.Prelude.{◌≡◌, List}
 use Rattle.demand.specs.Demand.{Demand}
 use Rattle.demand.specs.declared.Kind.{Ghosts}
 use Rattle.analysis.specs.Judge.{InTime, answers_of, bounds_of, vectors_of}

@@ -1,9 +1,9 @@
--- A hold in hand is spent without refusal, and stays one while other holds come and go. Some account agrees after each call. Assumes nothing.
+-- A hold in hand is spent without refusal, and some account agrees after each call. Assumes nothing.
 use Rattle.std.specs.List.{list_any}
-use Rattle.std.proofs.Common.{◌≡◌, ◌≢◌, ℕ, zero, suc, ◌<◌, inl, inr, get_or, length, true, false, eqb, List, [], ◌∷◌, IfErr, IfOk, IsOk, Ok, Err, Result, ap, ◌∙◌, sym, subst, refl, arith}
+use Rattle.std.proofs.Common.{◌≡◌, ℕ, zero, suc, ◌<◌, inl, inr, get_or, length, true, false, eqb, List, [], ◌∷◌, IfErr, IfOk, IsOk, Ok, Err, Result, ap, ◌∙◌, sym, subst, refl, arith}
 use Rattle.std.proofs.Math.Logic.{∥∥₁_elim, ∥∥₁_map}
 use Rattle.std.proofs.lemmas.Bool.Decides.{nat_tests}
-use Rattle.std.proofs.lemmas.Bool.{cases_Bool, and_from, both_ways, eq-eqb, or_left, and_parts, eqb-true, false_from_ne_true, or_right}
+use Rattle.std.proofs.lemmas.Bool.{cases_Bool, and_from, both_ways, eq-eqb, or_left, eqb-true, or_right}
 use Rattle.std.specs.Coded.{Coded-set, coded_bool, coded_ℕ}
 use Rattle.analysis.specs.declared.judgement.JudgeRefusal.{JudgeRefusal}
 use Rattle.analysis.specs.declared.answers.Answers.{Answers}
@@ -16,7 +16,7 @@ use Rattle.table.specs.declared.SpendRefusal.{SpendRefusal}
 use Rattle.table.specs.declared.SpendRefusal.TheVariants.{NotHeld}
 use Rattle.table.specs.declared.Table.{Table}
 use Rattle.table.specs.declared.WithdrawRefusal.{WithdrawRefusal}
-use Rattle.table.specs.Account.{Accepted, Account, Bears, Holds, Spends, Withdraws, bears, has_number, number_of, spent, unspent, with_row}
+use Rattle.table.specs.Account.{Accepted, Account, Bears, Holds, Spends, Withdraws, bears, has_number, number_of, unspent, with_row}
 use Rattle.table.specs.Agreement.{AgreesWith, NoneNamed}
 use Rattle.table.specs.Accounted.{IsAccounted, IsHolding}
 use Rattle.table.specs.History.{Continues}
@@ -27,8 +27,6 @@ use Rattle.table.specs.declared.State.TheVariants.{Free, Held, Kept}
 use Rattle.table.proofs.Checks.{is_not_unspent, spent_applies}
 use Rattle.table.proofs.Histories.{continues}
 use Rattle.table.proofs.Lookups.{within}
-use Rattle.table.proofs.Parts.{other_stays, unspent_own, unspent_row}
-use Rattle.table.proofs.Shared.{passed}
 use Rattle.table.proofs.Spending.{held_at, not_unspent, still_ours}
 
 abbrev hold_of : ℕ → ℕ → Hold
@@ -39,12 +37,6 @@ bears_of h = record { table = h.table; row = h.row }
 
 pub same_numbers : (g h : Hold) → g.table ≡ h.table → g.row ≡ h.row → g ≡ h
 same_numbers g h table row = ap (λ n. hold_of n g.row) table ∙ ap (hold_of h.table) row
-
--- another hold has other numbers
-other_numbers : (g h : Hold) → g ≢ h → bears h.table h.row (bears_of g) ≡ false
-other_numbers g h other = false_from_ne_true (bears h.table h.row (bears_of g)) (λ e.
-    let p = and_parts (eqb g.table h.table) (eqb g.row h.row) e in
-    other (same_numbers g h (eqb-true g.table h.table p.0) (eqb-true g.row h.row p.1)))
 
 pub none_has : (n : ℕ) (cs : List Claim) → NoneNamed n cs → has_number n cs ≡ true → ⊥
 none_has n [] none e = cc
@@ -96,12 +88,6 @@ module _ {K : Type 0} (demand : K → Demand) (t u : Table K) where
       let p = f k.account k.agrees in
       record { account = p.0; agrees = p.2 })
 
-  -- a hold stays in hand where each account has it unspent still
-  still_in_hand : (R : Account → Account → Type 0) → Turns R → (g : Hold) → ((a b : Account) → R a b → unspent g.table g.row a.holds ≡ true → unspent g.table g.row b.holds ≡ true) → IsHolding demand t g → IsHolding demand u g
-  still_in_hand R f g stays known = ∥∥₁_map known (λ k.
-      let p = f k.account k.agrees in
-      record { account = p.0; agrees = p.2; unspent_yet = stays k.account p.0 p.1 k.unspent_yet })
-
   module _ (c : Claim) where
     pub taken : (r : Result Hold HoldRefusal) → Turns (λ a b. Holds a c r b) → IsAccounted demand t → IfOk r (λ h. IsHolding demand u h)
     taken (Ok h) f known = ∥∥₁_map known (λ k.
@@ -112,23 +98,6 @@ module _ {K : Type 0} (demand : K → Demand) (t u : Table K) where
           unspent_yet = ap (λ (x : Account). unspent h.table h.row x.holds) p.1.1 ∙ given k.account c h p.1.0;
         })
     taken (Err e) f known = tt
-
-    -- the holds that were in hand are so still
-    pub beside_taken : (r : Result Hold HoldRefusal) → Turns (λ a b. Holds a c r b) → (g : Hold) → IsHolding demand t g → IsHolding demand u g
-    beside_taken (Ok h) f g = still_in_hand (λ a b. Holds a c (Ok h) b) f g (λ a b s e.
-        ap (λ (x : Account). unspent g.table g.row x.holds) s.1
-        ∙ or_right (bears g.table g.row (record { table = a.number; row = number_of c })) (unspent g.table g.row a.holds) e)
-    beside_taken (Err e) f g = still_in_hand (λ a b. Holds a c (Err e) b) f g (λ a b s e. ap (λ (x : Account). unspent g.table g.row x.holds) s.1 ∙ e)
-
-    -- and are not the new one, whose row is new
-    pub new_taken : (r : Result Hold HoldRefusal) → Turns (λ a b. Holds a c r b) → IfOk r (λ h. (g : Hold) → IsHolding demand t g → g ≢ h)
-    new_taken (Ok h) f = λ g known same.
-        ∥∥₁_elim known (λ x y. absurd x) (λ k.
-        let accepted = (f k.account k.agrees).1.0 in
-        let there : has_number g.row k.account.rows ≡ true = unspent_row k.account.number k.account.rows g.table g.row k.account.holds k.agrees.sound.holds k.unspent_yet in
-        let is : g.row ≡ number_of c = ap (λ (x : Hold). x.row) same ∙ accepted.row in
-        none_has (number_of c) k.account.rows (passed k.account c accepted.passes).number (rw (← is) there))
-    new_taken (Err e) f = tt
 
   -- a call of keep or release, where `after` is the account with the hold spent
   module _ (h : Hold) (after : Account → Account) where
@@ -146,24 +115,6 @@ module _ {K : Type 0} (demand : K → Demand) (t u : Table K) where
         same_numbers back h
         (∥∥₁_elim known (Coded-set coded_ℕ _ _) (λ k. ap (λ (x : Hold). x.table) (f k.account k.agrees).1.1))
         (∥∥₁_elim known (Coded-set coded_ℕ _ _) (λ k. ap (λ (x : Hold). x.row) (f k.account k.agrees).1.1)))
-
-    -- every other hold stays in hand
-    pub beside_spent : ((a : Account) → (after a).holds ≡ spent h.table h.row a.holds) → (r : Result (Unit {0}) SpendRefusal) → Turns (λ a b. Spends a h (after a) r b) → (g : Hold) → g ≢ h → IsHolding demand t g → IsHolding demand u g
-    beside_spent spends (Ok x) f g other = still_in_hand (λ a b. Spends a h (after a) (Ok x) b) f g (λ a b s e.
-        ap (λ (x : Account). unspent g.table g.row x.holds) s.1
-        ∙ ap (unspent g.table g.row) (spends a)
-        ∙ other_stays h.table h.row (bears_of g) a.holds (other_numbers g h other)
-        ∙ e)
-    beside_spent spends (Err (NotHeld back)) f g other = still_in_hand (λ a b. Spends a h (after a) (Err (NotHeld back)) b) f g (λ a b s e. ap (λ (x : Account). unspent g.table g.row x.holds) s.2 ∙ e)
-
-  -- a hold stays in hand when a row leaves
-  pub beside_withdrawn : (n : ℕ) (r : Result (Unit {0}) WithdrawRefusal) → Turns (λ a b. Withdraws a n r b) → (g : Hold) → IsHolding demand t g → IsHolding demand u g
-  beside_withdrawn n r f g = still_in_hand (λ a b. Withdraws a n r b) f g (λ a b s e. ap (unspent g.table g.row) (same_holds a b n r s) ∙ e)
-
--- a hold in hand bears the table's number
-pub own_number : {K : Type 0} {demand : K → Demand} {t : Table K} (h : Hold) → IsHolding demand t h → h.table ≡ t.number
-own_number h known =
-    ∥∥₁_elim known (Coded-set coded_ℕ _ _) (λ k. unspent_own k.account.number k.account.rows h.table h.row k.account.holds k.agrees.sound.holds k.unspent_yet ∙ k.agrees.number_is)
 
 -- what is answered for all rows is never an error
 pub answers_all : {K : Type 0} (demand : K → Demand) (t : Table K) (r : Result Answers JudgeRefusal) → ((a : Account) → AgreesWith demand a t → (all : Answers) × (r ≡ Ok all) × Answered (loads (ranked a.rows)) (answers_of all)) → IsAccounted demand t → IsOk r

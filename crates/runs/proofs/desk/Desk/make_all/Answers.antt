@@ -1,8 +1,7 @@
-use Rattle.std.proofs.Common.{◌≡◌, [], ◌∷◌, List, length, subst, sym, refl, arith}
+use Rattle.std.proofs.Common.{◌≡◌, [], List, subst, refl, arith}
 use Rattle.std.proofs.lemmas.List.{append-nil}
 use Rattle.std.specs.Vec.{vec_items}
-use Rattle.std.specs.Vec.Iter.{into_iter_items, into_iter_len}
-use Rattle.table.specs.Runs.{Event}
+use Rattle.std.specs.Vec.Iter.{into_iter_items}
 use Rattle.runs.specs.declared.call.Reply.{Reply}
 use Rattle.runs.specs.Calls.{Follow}
 use Rattle.runs.specs.Desk.{table_of}

@@ -1,5 +1,4 @@
-use Rattle.std.proofs.Common.{◌≡◌, ◌≢◌, sym, ap, ◌∙◌}
-use Rattle.table.specs.declared.Hold.{Hold}
+use Rattle.std.proofs.Common.{sym, ◌∙◌}
 use Rattle.table.proofs.InHand.{same_numbers}
 use Rattle.runs.specs.Calls.{token}
 use Rattle.runs.proofs.Hands.{found_there, handed_back_surely, of_another, refused_with, same_in_hand, same_then}

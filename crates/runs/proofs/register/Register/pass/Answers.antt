@@ -1,13 +1,6 @@
-use Rattle.std.proofs.Common.{Err, Result}
 use Rattle.std.proofs.lemmas.Result.{err_from_is_err_and}
-use Rattle.analysis.specs.declared.answers.Answers.{Answers}
-use Rattle.analysis.specs.Ranks.{Claim}
-use Rattle.table.specs.declared.HoldRefusal.{HoldRefusal}
-use Rattle.table.specs.Account.{Account, HoldsAnswered, with_kept, with_released}
+use Rattle.table.specs.Account.{with_kept, with_released}
 use Rattle.table.proofs.InHand.{still_accounted}
-use Rattle.runs.specs.declared.call.Way.{Way}
-use Rattle.runs.specs.declared.call.Way.TheVariants.{GiveUp, KeepRow}
-use Rattle.runs.specs.Passing.{Passes}
 use Rattle.runs.proofs.Passing.{gives_row_up, keeps_row, refused_alike, spent_at_once}
 use Rattle.runs.proofs.register.Register.pass.Goals as goal
 
