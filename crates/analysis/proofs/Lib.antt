@@ -14,6 +14,5 @@ pub mod Judging
 pub mod Order
 pub mod Verdicts
 pub mod Tested
-pub mod Garage
 pub mod AnyOrder
 pub mod Greatest

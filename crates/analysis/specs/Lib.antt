@@ -7,4 +7,3 @@ pub mod Removal
 pub mod Places
 pub mod Candidates
 pub mod Judge
-pub mod Figures

@@ -1,9 +1,6 @@
 // The response-time analysis of fixed-priority tasks that suspend themselves and share locks.
 #![tactic(auto)]
 
-ghost use Rattle.std.specs.Prelude.{◌≡◌, true};
-ghost use Rattle.analysis.specs.Figures.{GarageFigures};
-
 mod answers;
 mod candidates;
 mod cover;
@@ -62,12 +59,4 @@ pub struct Answer {
     pub bound: u32,
     pub vector: u32,
     pub blocking: u64,
-}
-
-// The figures of a garage of three rows follow from the definitions. The answer is always `true`: a law is proved where a
-// function ensures it.
-pub fn garage_figures_hold() -> bool
-    ensures { (result ≡ true) × (GarageFigures) }
-{
-    true
 }

@@ -104,9 +104,3 @@ fn ceilings_of_three_rows(rt: HostRuntime) {
     expected[5] = Some(20);
     assert_eq!(rt; ceilings, expected);
 }
-
-// The answer is `true` always; what is proved is the contract.
-#[test]
-fn figures_hold(rt: HostRuntime) {
-    assert!(rt; garage_figures_hold());
-}

@@ -1,11 +1,10 @@
 -- What the account answers to calls with the rows of the worked garage, computed. Assumes nothing.
 use Rattle.std.proofs.Common.{◌≡◌, ℕ, T, leb, [], ◌∷◌, Ok, refl, arith}
-use Rattle.analysis.specs.Figures.{garage_bounds, garage_vectors}
 use Rattle.analysis.proofs.Tested.{late_by}
 use Rattle.demand.specs.Refusals.{first}
 use Rattle.table.specs.declared.HoldRefusal.TheVariants.{Late}
 use Rattle.table.specs.Account.{Accepted, Refused, Withdraws, BoundsAnswered, hold_checks}
-use Rattle.planfile.specs.Figures.{car_hold, all_kept, car_gone}
+use Rattle.planfile.specs.Figures.{garage_bounds, garage_vectors, car_hold, all_kept, car_gone}
 use Rattle.planfile.specs.Reading.{taking}
 use Rattle.planfile.proofs.GarageRows.{row_1, row_2, row_3, three, two_rows, above_car, three_rows}
 

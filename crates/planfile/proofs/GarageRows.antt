@@ -1,11 +1,10 @@
 -- The rows of the worked garage, with any deadlines, and their bounds, computed. Assumes nothing.
 use Rattle.std.proofs.Common.{ℕ, zero, suc, T, leb, [], ◌∷◌, arith}
-use Rattle.analysis.specs.Figures.{garage_bounds, garage_vectors}
 use Rattle.analysis.specs.Plans.{System, Bounds}
 use Rattle.analysis.specs.Ranks.{Claim, system_of}
 use Rattle.analysis.proofs.Tested.{bound_by}
 use Rattle.planfile.specs.Checks.{claim_of}
-use Rattle.planfile.specs.Figures.{even_clock, entry_with}
+use Rattle.planfile.specs.Figures.{garage_bounds, garage_vectors, even_clock, entry_with}
 
 -- the meters, with this deadline
 abbrev pub row_1 : ℕ → Claim

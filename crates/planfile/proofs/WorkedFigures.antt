@@ -2,7 +2,6 @@
 use Rattle.std.proofs.Common.{◌≡◌, ℕ, zero, suc, ◌<◌, Bool, true, ◌&&◌, leb, List, [], ◌∷◌, length, get_or, refl, arith}
 use Rattle.std.proofs.lemmas.Bool.{and_parts, leb-true}
 use Rattle.std.specs.Fmt.{digits}
-use Rattle.analysis.specs.Figures.{garage_bounds, garage_vectors}
 use Rattle.analysis.specs.Judge.{RowAnswered, InTime, no_answer, bounds_of, vectors_of}
 use Rattle.analysis.specs.Plans.{Bounds}
 use Rattle.analysis.specs.Ranks.{at, ranked, loads, system_of}
@@ -11,7 +10,7 @@ use Rattle.analysis.proofs.Tested.{fixed_by}
 use Rattle.table.specs.Agreement.{LawfulRows}
 use Rattle.table.proofs.Shared.{needs_grow}
 use Rattle.planfile.specs.Checks.{Entry}
-use Rattle.planfile.specs.Figures.{TextFigures, WorkedFigures, even_clock, entry_with, garage_entries, garage_answers, file_rows}
+use Rattle.planfile.specs.Figures.{garage_bounds, garage_vectors, TextFigures, WorkedFigures, even_clock, entry_with, garage_entries, garage_answers, file_rows}
 use Rattle.planfile.specs.Laws.{numbers_of, jobs_numbers, AllFit, Writable, SoundPlan}
 use Rattle.planfile.proofs.GarageCalls.{car_accepted, car_late, meters_late, car_withdrawn, then_one, then_two}
 use Rattle.planfile.proofs.GarageFile.{garage_read, car_13_refused, car_14_read, meters_8_refused, meters_9_read}

@@ -1,9 +1,8 @@
 -- Figures worked out by hand: of the kinds, of a plan file of three rows, and of calls for its rows. Assumes nothing.
 -- How to read it: the file comes first, and all that is said of its rows is said of rows that its bytes give. Each field of `WorkedFigures` at the
 -- end is one claim.
-use Rattle.std.specs.Prelude.{◌≡◌, ℕ, List, [], ◌∷◌, ◌++◌, map, Ok, Err, codes, slice_index_or}
+use Rattle.std.specs.Prelude.{◌≡◌, ℕ, List, [], ◌∷◌, ◌++◌, map, Ok, Err, codes, slice_index, slice_index_or}
 use Rattle.analysis.specs.declared.Answer.{Answer}
-use Rattle.analysis.specs.Figures.{garage_bounds, garage_vectors}
 use Rattle.analysis.specs.Judge.{InTime}
 use Rattle.analysis.specs.Plans.{Bounds, Fixed}
 use Rattle.analysis.specs.Ranks.{Claim, Load, ranked, loads, system_of}
@@ -119,6 +118,14 @@ entry_with number priority suspension suspensions deadline lock c t = record {
 -- the three rows, as a plan file is written from them
 abbrev pub garage_entries : List Entry
 garage_entries = entry_with 1 30 3 1 10 1 2 10 ∷ entry_with 2 20 0 0 15 0 3 16 ∷ entry_with 3 10 0 0 40 2 5 40 ∷ []
+
+-- the bounds of the three ranks, the meters first
+abbrev pub garage_bounds : ℕ → ℕ
+garage_bounds k = slice_index (9 ∷ 9 ∷ 14 ∷ []) k
+
+-- and their vectors
+abbrev pub garage_vectors : ℕ → ℕ
+garage_vectors k = slice_index (0 ∷ 0 ∷ 2 ∷ []) k
 
 -- what is answered for them
 abbrev pub garage_answers : List Answer

@@ -15,12 +15,11 @@ use Rattle.table.specs.declared.SpendRefusal.TheVariants.{NotHeld}
 use Rattle.table.specs.declared.WithdrawRefusal.{WithdrawRefusal}
 use Rattle.table.specs.declared.Table.{Table}
 use Rattle.table.specs.Account.{Account, Holds, Spends, Withdraws, fresh, handed_back, number_of, spend_checks, spent, unspent, with_row, with_withdrawn}
-use Rattle.table.specs.Accounted.{IsAccounted}
 use Rattle.table.specs.Agreement.{AgreesWith}
 use Rattle.table.specs.History.{fresh_of}
 use Rattle.table.specs.Places.{has_held}
 use Rattle.table.proofs.Checks.{is_not_unspent, is_unspent}
-use Rattle.table.proofs.InHand.{Turns, has_held_is, none_has, same_hold, same_holds}
+use Rattle.table.proofs.InHand.{IsAccounted, Turns, has_held_is, none_has, same_hold, same_holds}
 use Rattle.table.proofs.Parts.{others_stay, unspent_own, unspent_row}
 use Rattle.table.proofs.Shared.{passed}
 use Rattle.table.proofs.Spending.{spent_gone}
@@ -31,7 +30,7 @@ both_stay a b e = (ap (λ (x : Account). x.number) e, ap (λ (x : Account). x.ro
 
 module _ {K : Type 0} (demand : K → Demand) (t u : Table K) (known : IsAccounted demand t) where
   -- what follows about numbers and tests from any account of the table before follows
-  number_from : (m n : ℕ) → ((a : Account) → AgreesWith demand a t → m ≡ n) → m ≡ n
+  pub number_from : (m n : ℕ) → ((a : Account) → AgreesWith demand a t → m ≡ n) → m ≡ n
   number_from m n f = ∥∥₁_elim known (Coded-set coded_ℕ _ _) (λ k. f k.account k.agrees)
 
   test_from : (x y : Bool) → ((a : Account) → AgreesWith demand a t → x ≡ y) → x ≡ y

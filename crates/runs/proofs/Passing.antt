@@ -12,12 +12,13 @@ use Rattle.table.specs.declared.HoldRefusal.{HoldRefusal}
 use Rattle.table.specs.declared.SpendRefusal.{SpendRefusal}
 use Rattle.table.specs.declared.Table.{Table}
 use Rattle.table.specs.Account.{Account, Accepted, Bears, bears, HoldsAnswered, Spends, hold_checks, number_of, spent, unspent, with_kept, with_released, with_row, without}
-use Rattle.table.specs.Accounted.{IsAccounted}
 use Rattle.table.specs.Agreement.{AgreesWith, Sound}
 use Rattle.table.proofs.Changes.{without_none}
-use Rattle.table.proofs.InHand.{Turns, none_has, not_refused, same_numbers, taken}
+use Rattle.table.proofs.InHand.{IsAccounted, Turns, none_has, not_refused, same_numbers, taken}
 use Rattle.table.proofs.Parts.{unspent_row}
 use Rattle.table.proofs.Shared.{passed}
+use Rattle.runs.specs.Calls.{on_row}
+use Rattle.runs.proofs.Held.{number_from}
 use Rattle.runs.specs.Passing.{GivesRowUp, KeepsRow, Passes, hold_on}
 use Rattle.runs.specs.declared.call.Way.{Way}
 use Rattle.runs.specs.declared.call.Way.TheVariants.{GiveUp, KeepRow}
@@ -88,3 +89,10 @@ module _ {K : Type 0} (demand : K → Demand) (t u v : Table K) (c : Claim) (h :
 pub refused_alike : (way : Way) (a : Account) (c : Claim) (e : HoldRefusal) (b : Account) → HoldsAnswered a c (Err e) b → Passes way a c (Err e) b
 refused_alike KeepRow a c e b refused = refused
 refused_alike GiveUp a c e b refused = refused
+
+-- the hold that was given bears the table's number and the row's
+pub given_here : {K : Type 0} (demand : K → Demand) (t u : Table K) (c : Claim) (h : Hold) (all : Answers) → Turns demand t u (λ a b. HoldsAnswered a c (Ok (h, all)) b) → IsAccounted demand t → h ≡ on_row t.number (number_of c)
+given_here demand t u c h all held known =
+    same_numbers h (on_row t.number (number_of c))
+    (number_from demand t u known h.table t.number (λ a agrees. (held a agrees).1.0.0.table ∙ agrees.number_is))
+    (number_from demand t u known h.row (number_of c) (λ a agrees. (held a agrees).1.0.0.row))

@@ -41,18 +41,19 @@ reply_number (Bound (Err e)) = bound_number e
 abbrev pub on_row : ℕ → ℕ → Token
 on_row table n = record { table = table; row = n }
 
+-- the hold that a call names
 abbrev pub token : HoldId → Token
 token id = on_row id.table id.row
 
 -- a reply to a call of hold, with the hold that an accepted one gives on row n
-abbrev pub given : ℕ → ℕ → Result (Unit {0}) HoldRefusal → Result Token HoldRefusal
-given table n (Ok u) = Ok (on_row table n)
-given table n (Err e) = Err e
+abbrev pub hold_answer : ℕ → ℕ → Result (Unit {0}) HoldRefusal → Result Token HoldRefusal
+hold_answer table n (Ok u) = Ok (on_row table n)
+hold_answer table n (Err e) = Err e
 
 -- a reply to a call of keep or release, with the hold that comes back from a refusal
-abbrev pub spent : Token → Result (Unit {0}) NotHeld → Result (Unit {0}) SpendRefusal
-spent h (Ok u) = Ok u
-spent h (Err e) = Err (Back h)
+abbrev pub spend_answer : Token → Result (Unit {0}) NotHeld → Result (Unit {0}) SpendRefusal
+spend_answer h (Ok u) = Ok u
+spend_answer h (Err e) = Err (Back h)
 
 -- a hold was to be spent in one of the two ways, with the answer
 abbrev pub spending : Way → Token → Result (Unit {0}) SpendRefusal → Event
@@ -60,8 +61,8 @@ spending KeepRow h r = keeping h r
 spending GiveUp h r = releasing h r
 
 -- the hold was released
-abbrev pub given_up : Token → Event
-given_up h = releasing h (Ok tt)
+abbrev pub release_of : Token → Event
+release_of h = releasing h (Ok tt)
 
 -- the row of a task, with the meaning of its kind
 abbrev pub claim_of : {K : Type 0} → (K → Demand) → Task K → Claim
@@ -70,9 +71,9 @@ claim_of demand task = record { row = task.row; demand = demand task.kind }
 module _ {K : Type 0} (demand : K → Demand) (table : ℕ) where
   -- the call and its reply are this event; a reply to another call than its own is none
   abbrev pub IsEvent : Call K → Reply → Event → Type 0
-  IsEvent (HoldCall task) (Hold r) e = e ≡ holding (claim_of demand task) (given table task.row.number r)
-  IsEvent (KeepCall id) (Keep r) e = e ≡ keeping (token id) (spent (token id) r)
-  IsEvent (ReleaseCall id) (Release r) e = e ≡ releasing (token id) (spent (token id) r)
+  IsEvent (HoldCall task) (Hold r) e = e ≡ holding (claim_of demand task) (hold_answer table task.row.number r)
+  IsEvent (KeepCall id) (Keep r) e = e ≡ keeping (token id) (spend_answer (token id) r)
+  IsEvent (ReleaseCall id) (Release r) e = e ≡ releasing (token id) (spend_answer (token id) r)
   IsEvent (WithdrawCall n) (Withdraw r) e = e ≡ withdrawing n r
   IsEvent (BoundCall n) (Bound r) e = e ≡ bounding n r
   IsEvent call reply e = ⊥

@@ -33,9 +33,15 @@ pub record KeepsPromise {K : Type 0} (demand : K → Demand) (es : List Event) (
   -- all calls with their answers, these after those before
   pub events : List Event
   pub follow : Follow demand t.number calls ran.replies.items es events
-  -- the table has been through them, and nothing else
+  -- the table has been through them
   pub history : HasHistory demand events t
   -- the answers at the end are those for all of its rows, highest first
   pub answers : InTime (rows_at demand t) (answers_of ran.answers)
   -- and the promise holds of all calls, of the table, and of these bounds and vectors
   pub promise : ∥ Promise demand events t (bounds_of (answers_of ran.answers)) (vectors_of (answers_of ran.answers)) ∥₁
+
+-- Calls were run on the table t, which is u then. Whatever t had been through, the promise holds of that and these calls; and t had been
+-- through some calls, since every desk has.
+pub record RunsAsPromised {K : Type 0} (demand : K → Demand) (calls : List (Call K)) (ran : Ran) (t u : Table K) : Type 0 where
+  pub after : (es : List Event) → HasHistory demand es t → KeepsPromise demand es calls ran u
+  pub ever : ∥ ((es : List Event) × HasHistory demand es t × KeepsPromise demand es calls ran u) ∥₁

@@ -1,11 +1,13 @@
 -- Rows that are held and at once kept, or held and at once given up. Assumes nothing.
 -- How to read it: a is the account before the two calls, b the one after them, c a row with the meaning of its kind.
-use Rattle.std.specs.Prelude.{◌≡◌, ◌∷◌, Ok, Err, Result}
+use Rattle.std.specs.Prelude.{◌≡◌, ℕ, List, ◌∷◌, Ok, Err, Result}
 use Rattle.analysis.specs.declared.answers.Answers.{Answers}
 use Rattle.analysis.specs.Judge.{Answered, answers_of}
 use Rattle.analysis.specs.Ranks.{Claim, ranked, loads}
 use Rattle.table.specs.declared.Hold.{Hold}
 use Rattle.table.specs.declared.HoldRefusal.{HoldRefusal}
+use Rattle.table.specs.Runs.{Event, holding}
+use Rattle.runs.specs.Calls.{on_row, spending}
 use Rattle.runs.specs.declared.call.Way.{Way}
 use Rattle.runs.specs.declared.call.Way.TheVariants.{KeepRow, GiveUp}
 use Rattle.table.specs.Account.{Account, Accepted, Refused, number_of, with_row, with_kept}
@@ -32,3 +34,8 @@ GivesRowUp a c (Err e) b = Refused a c e × (b ≡ a)
 abbrev pub Passes : Way → Account → Claim → Result Answers HoldRefusal → Account → Type 0
 Passes KeepRow = KeepsRow
 Passes GiveUp = GivesRowUp
+
+-- What a table has been through when the row was held and its hold spent, or the row refused, behind the calls es.
+abbrev pub passing : Way → ℕ → Claim → Result Answers HoldRefusal → List Event → List Event
+passing way table c (Ok all) es = spending way (on_row table (number_of c)) (Ok tt) ∷ holding c (Ok (on_row table (number_of c))) ∷ es
+passing way table c (Err e) es = holding c (Err e) ∷ es

@@ -1,12 +1,12 @@
 // A table with the holds that it gave, and lists of calls that are run on it.
-ghost use Rattle.std.specs.Prelude.{◌≡◌, ◌≢◌, ℕ, List, ◌+◌, ◌<◌, ◌≤◌, [], ◌∷◌, ◌++◌, All, Any, IfOk, OnErr, OnOk, length, min, map, position, true, false, MatchResult, MatchOption, slice_index_or, vec_items, ◌↔◌};
+ghost use Rattle.std.specs.Prelude.{◌≡◌, ◌≢◌, ℕ, List, ◌+◌, ◌<◌, ◌≤◌, [], ◌++◌, IfOk, OnErr, OnOk, length, min, map, position, true, false, vec_items, ◌↔◌};
 ghost use Rattle.std.specs.Vec.{vec_len, vec_capacity};
 ghost use Rattle.analysis.specs.Judge.{InTime, answers_of};
 ghost use Rattle.table.specs.Account.{fresh};
 ghost use Rattle.table.specs.History.{Continues, HasHistory, fresh_of, rows_at};
 ghost use Rattle.table.specs.Places.{has_held};
 ghost use Rattle.table.specs.Runs.{Event, holding};
-ghost use Rattle.runs.specs.Calls.{Follow, IsEvent, claim_of, given, given_up, spending, spent, token};
+ghost use Rattle.runs.specs.Calls.{Follow, IsEvent, claim_of, hold_answer, release_of, spend_answer, spending, token};
 ghost use Rattle.runs.specs.Holds.{InHand, has_own, is_token};
 ghost use Rattle.runs.specs.declared.desk.RunRefusal.TheVariants.{Memory as OutOfMemory};
 
@@ -24,7 +24,7 @@ use table::{Hold, HoldRefusal, SpendRefusal, Table};
 pub struct Desk<'a, K: Kind> {
     register: Register<'a, K>,
     holds: Vec<Hold>,
-    ghost in_hand: { InHand register.table (vec_items holds) },
+    pub ghost in_hand: { InHand register.table (vec_items holds) },
 }
 
 /// What a list of calls came to.
@@ -65,12 +65,12 @@ impl From<AllocError> for RunRefusal {
 }
 
 impl<'a, K: Kind + Drop> Desk<'a, K> {
-    ghost use Rattle.runs.specs.Desk.{KeepsPromise, SameDesk, holds_of, table_of};
+    ghost use Rattle.runs.specs.Desk.{KeepsPromise, RunsAsPromised, SameDesk, holds_of, table_of};
 
     /// An empty table over row memory, of which it uses twelve places at most, and no hold. What stood there is let go.
     pub fn new(heap: Global, number: u8, places: &'a mut [Option<Task<K>>]) -> Desk<'a, K>
         ensures history { HasHistory K.demand [] (table_of result) }
-        ensures start { fresh_of (table_of result) ≡ fresh number (min (length places.old) 12) }
+        ensures number_and_room { fresh_of (table_of result) ≡ fresh number (min (length places.old) 12) }
     {
         Desk {
             register: Register::new(number, places),
@@ -87,7 +87,8 @@ impl<'a, K: Kind + Drop> Desk<'a, K> {
 
     /// The holds in hand.
     pub fn holds(&self) -> &[Hold]
-        ensures { result.now ≡ holds_of self.now }
+        ensures value { result.now ≡ holds_of self.now }
+        ensures in_hand { InHand (table_of self.now) result.now }
     {
         &self.holds
     }
@@ -102,10 +103,9 @@ impl<'a, K: Kind + Drop> Desk<'a, K> {
     /// Runs a list of calls, in order. A call that names a hold which is not in hand is answered as the table would answer it.
     /// The only refusal is for want of memory: it comes before any call is made, and nothing has changed.
     pub fn run(&mut self, heap: Global, calls: Vec<Call<K>>) -> Result<Ran, AllocError>
-        ensures promise { IfOk result (λ ran. (es : List Event)
-            → HasHistory K.demand es (table_of self.old)
-            → KeepsPromise K.demand es (vec_items calls) ran (table_of self.new)) }
-        ensures start { fresh_of (table_of self.new) ≡ fresh_of (table_of self.old) }
+        ensures promise { IfOk result (λ ran.
+            RunsAsPromised K.demand (vec_items calls) ran (table_of self.old) (table_of self.new)) }
+        ensures number_and_room { fresh_of (table_of self.new) ≡ fresh_of (table_of self.old) }
         ensures refused { OnErr result (SameDesk self.old self.new) }
     {
         let replies = self.room_for(heap, calls.len())?;
@@ -124,10 +124,9 @@ impl<'a, K: Kind + Drop> Desk<'a, K> {
         calls: Vec<Call<K>>,
         foreign: &mut Vec<Hold>,
     ) -> Result<Ran, RunRefusal>
-        ensures promise { IfOk result (λ ran. (es : List Event)
-            → HasHistory K.demand es (table_of self.old)
-            → KeepsPromise K.demand es (vec_items calls) ran (table_of self.new)) }
-        ensures start { fresh_of (table_of self.new) ≡ fresh_of (table_of self.old) }
+        ensures promise { IfOk result (λ ran.
+            RunsAsPromised K.demand (vec_items calls) ran (table_of self.old) (table_of self.new)) }
+        ensures number_and_room { fresh_of (table_of self.new) ≡ fresh_of (table_of self.old) }
         ensures foreign { vec_items foreign.new ≡ vec_items foreign.old }
         ensures own_hold { (result ≡ Err RunRefusal.OwnHold)
             ↔ (has_own (table_of self.old).number (vec_items foreign.old) ≡ true) }
@@ -147,10 +146,9 @@ impl<'a, K: Kind + Drop> Desk<'a, K> {
         calls: Vec<Call<K>>,
         other: &mut Desk<'_, L>,
     ) -> Result<Ran, RunRefusal>
-        ensures promise { IfOk result (λ ran. (es : List Event)
-            → HasHistory K.demand es (table_of self.old)
-            → KeepsPromise K.demand es (vec_items calls) ran (table_of self.new)) }
-        ensures start { fresh_of (table_of self.new) ≡ fresh_of (table_of self.old) }
+        ensures promise { IfOk result (λ ran.
+            RunsAsPromised K.demand (vec_items calls) ran (table_of self.old) (table_of self.new)) }
+        ensures number_and_room { fresh_of (table_of self.new) ≡ fresh_of (table_of self.old) }
         ensures other { SameDesk other.old other.new }
         ensures own_hold { (result ≡ Err RunRefusal.OwnHold)
             ↔ (has_own (table_of self.old).number (holds_of other.old) ≡ true) }
@@ -171,7 +169,8 @@ impl<'a, K: Kind + Drop> Desk<'a, K> {
     ) -> Result<(Desk<'a, K>, Ran), RunRefusal>
         ensures promise { IfOk result (λ r.
             KeepsPromise K.demand [] (vec_items calls) r.1 (table_of r.0)) }
-        ensures start { IfOk result (λ r. fresh_of (table_of r.0) ≡ fresh number (min (length places.old) 12)) }
+        ensures number_and_room { IfOk result (λ r. fresh_of (table_of r.0)
+            ≡ fresh number (min (length places.old) 12)) }
         ensures foreign { vec_items foreign.new ≡ vec_items foreign.old }
         ensures own_hold { (result ≡ Err RunRefusal.OwnHold)
             ↔ (has_own number (vec_items foreign.old) ≡ true) }
@@ -184,8 +183,8 @@ impl<'a, K: Kind + Drop> Desk<'a, K> {
     /// Gives up what is held still: each hold in hand is released, the last one first. The table is answered.
     pub fn close(self) -> Table<'a, K>
         ensures history { (es : List Event) → HasHistory K.demand es (table_of self.entry)
-            → HasHistory K.demand (map given_up (holds_of self.entry) ++ es) result }
-        ensures kept { (n : ℕ) → has_held result n ≡ false }
+            → HasHistory K.demand (map release_of (holds_of self.entry) ++ es) result }
+        ensures none_held { (n : ℕ) → has_held result n ≡ false }
     {
         let Desk {
             mut register,
@@ -221,9 +220,8 @@ impl<'a, K: Kind + Drop> Desk<'a, K> {
         requires none { vec_items replies ≡ [] }
         requires replies { vec_len calls ≤ vec_capacity replies }
         requires holds { vec_len self.old.holds + vec_len calls ≤ vec_capacity self.old.holds }
-        ensures promise { (es : List Event) → HasHistory K.demand es (table_of self.old)
-            → KeepsPromise K.demand es (vec_items calls) result (table_of self.new) }
-        ensures start { fresh_of (table_of self.new) ≡ fresh_of (table_of self.old) }
+        ensures promise { RunsAsPromised K.demand (vec_items calls) result (table_of self.old) (table_of self.new) }
+        ensures number_and_room { fresh_of (table_of self.new) ≡ fresh_of (table_of self.old) }
         ensures foreign { vec_items foreign.new ≡ vec_items foreign.old }
     {
         self.make_all(calls, foreign, &mut replies);
@@ -236,9 +234,9 @@ impl<'a, K: Kind + Drop> Desk<'a, K> {
         requires { vec_len self.old.holds < vec_capacity self.old.holds }
         ensures history { Continues K.demand
             (holding (claim_of K.demand task)
-            (given (table_of self.old).number task.row.number result))
+            (hold_answer (table_of self.old).number task.row.number result))
             (table_of self.old) (table_of self.new) }
-        ensures start { fresh_of (table_of self.new) ≡ fresh_of (table_of self.old) }
+        ensures number_and_room { fresh_of (table_of self.new) ≡ fresh_of (table_of self.old) }
         ensures room { (vec_len self.new.holds ≤ vec_len self.old.holds + 1)
             × (vec_capacity self.new.holds ≡ vec_capacity self.old.holds) }
     {
@@ -250,9 +248,9 @@ impl<'a, K: Kind + Drop> Desk<'a, K> {
     // The hold in hand that bears these numbers is spent, if there is one.
     fn spend_own(&mut self, way: Way, id: HoldId) -> Result<(), NotHeld>
         requires { id.table ≡ (table_of self.old).number }
-        ensures history { Continues K.demand (spending way (token id) (spent (token id) result))
+        ensures history { Continues K.demand (spending way (token id) (spend_answer (token id) result))
             (table_of self.old) (table_of self.new) }
-        ensures start { fresh_of (table_of self.new) ≡ fresh_of (table_of self.old) }
+        ensures number_and_room { fresh_of (table_of self.new) ≡ fresh_of (table_of self.old) }
         ensures room { (vec_len self.new.holds ≤ vec_len self.old.holds)
             × (vec_capacity self.new.holds ≡ vec_capacity self.old.holds) }
     {
@@ -265,9 +263,9 @@ impl<'a, K: Kind + Drop> Desk<'a, K> {
     // The hold of another table that bears these numbers, if one was handed in, is handed to this table and comes back.
     fn offer(&mut self, way: Way, id: HoldId, foreign: &mut Vec<Hold>) -> Result<(), NotHeld>
         requires { id.table ≢ (table_of self.old).number }
-        ensures history { Continues K.demand (spending way (token id) (spent (token id) result))
+        ensures history { Continues K.demand (spending way (token id) (spend_answer (token id) result))
             (table_of self.old) (table_of self.new) }
-        ensures start { fresh_of (table_of self.new) ≡ fresh_of (table_of self.old) }
+        ensures number_and_room { fresh_of (table_of self.new) ≡ fresh_of (table_of self.old) }
         ensures room { self.new.holds ≡ self.old.holds }
         ensures foreign { vec_items foreign.new ≡ vec_items foreign.old }
     {
@@ -282,9 +280,9 @@ impl<'a, K: Kind + Drop> Desk<'a, K> {
     // The hold that bears these numbers is spent, or it comes back to where it was.
     fn spend(&mut self, way: Way, id: HoldId, foreign: &mut Vec<Hold>) -> Result<(), NotHeld>
         ensures history { Continues K.demand
-            (spending way (token id) (spent (token id) result))
+            (spending way (token id) (spend_answer (token id) result))
             (table_of self.old) (table_of self.new) }
-        ensures start { fresh_of (table_of self.new) ≡ fresh_of (table_of self.old) }
+        ensures number_and_room { fresh_of (table_of self.new) ≡ fresh_of (table_of self.old) }
         ensures room { (vec_len self.new.holds ≤ vec_len self.old.holds)
             × (vec_capacity self.new.holds ≡ vec_capacity self.old.holds) }
         ensures foreign { vec_items foreign.new ≡ vec_items foreign.old }
@@ -301,7 +299,7 @@ impl<'a, K: Kind + Drop> Desk<'a, K> {
         requires { vec_len self.old.holds < vec_capacity self.old.holds }
         ensures history { (e : Event) × IsEvent K.demand (table_of self.old).number call result e
             × Continues K.demand e (table_of self.old) (table_of self.new) }
-        ensures start { fresh_of (table_of self.new) ≡ fresh_of (table_of self.old) }
+        ensures number_and_room { fresh_of (table_of self.new) ≡ fresh_of (table_of self.old) }
         ensures room { (vec_len self.new.holds ≤ vec_len self.old.holds + 1)
             × (vec_capacity self.new.holds ≡ vec_capacity self.old.holds) }
         ensures foreign { vec_items foreign.new ≡ vec_items foreign.old }
@@ -322,9 +320,10 @@ impl<'a, K: Kind + Drop> Desk<'a, K> {
         requires holds { vec_len self.old.holds + vec_len calls ≤ vec_capacity self.old.holds }
         ensures history { (es : List Event) → HasHistory K.demand es (table_of self.old)
             → (all : List Event)
-            × Follow K.demand (table_of self.new).number (vec_items calls) (vec_items replies.new) es all
+            × Follow K.demand (table_of self.new).number
+            (vec_items calls) (vec_items replies.new) es all
             × HasHistory K.demand all (table_of self.new) }
-        ensures start { fresh_of (table_of self.new) ≡ fresh_of (table_of self.old) }
+        ensures number_and_room { fresh_of (table_of self.new) ≡ fresh_of (table_of self.old) }
         ensures foreign { vec_items foreign.new ≡ vec_items foreign.old }
     {
         let mut left = calls.into_iter();

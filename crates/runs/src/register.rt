@@ -1,15 +1,14 @@
 // A table that only its own calls have changed, with no hold in hand.
-ghost use Rattle.std.specs.Prelude.{◌≡◌, ℕ, min, [], length, Ok, IfOk, MatchResult};
+ghost use Rattle.std.specs.Prelude.{◌≡◌, List, min, [], length, MatchResult};
 ghost use Rattle.analysis.specs.Judge.{InTime, answers_of};
 ghost use Rattle.table.specs.Account.{Account, fresh};
-ghost use Rattle.table.specs.Accounted.{IsAccounted};
 ghost use Rattle.table.specs.Agreement.{AgreesWith};
-ghost use Rattle.table.specs.History.{Continues, HasHistory, rows_at};
+ghost use Rattle.table.specs.History.{Continues, HasHistory, HasSomeHistory, rows_at};
 ghost use Rattle.table.specs.Memory.{Emptied};
-ghost use Rattle.table.specs.Runs.{holding, withdrawing, bounding};
+ghost use Rattle.table.specs.Runs.{Event, holding, withdrawing, bounding};
 ghost use Rattle.runs.specs.Calls.{claim_of, spending};
 ghost use Rattle.runs.specs.Holds.{SameHeld, GivesHoldOn, SpendsHoldOn, HandsBack};
-ghost use Rattle.runs.specs.Passing.{KeepsRow, GivesRowUp, Passes};
+ghost use Rattle.runs.specs.Passing.{KeepsRow, GivesRowUp, Passes, passing};
 
 use super::call::Way;
 use analysis::{Answers, Row, Task};
@@ -21,13 +20,14 @@ use table::{BoundRefusal, Hold, HoldRefusal, SpendRefusal, Table, WithdrawRefusa
 #[derive(Drop)]
 pub struct Register<'a, K: Kind> {
     pub(crate) table: Table<'a, K>,
-    ghost accounted: { IsAccounted K.demand table },
+    ghost history: { HasSomeHistory K.demand table },
 }
 
 impl<'a, K: Kind + Drop> Register<'a, K> {
     /// An empty table over row memory, of which it uses twelve places at most. What stood there is let go.
     pub fn new(number: u8, places: &'a mut [Option<Task<K>>]) -> Register<'a, K>
-        ensures agrees { AgreesWith K.demand (fresh number (min (length places.old) 12)) result.table }
+        ensures agrees { AgreesWith K.demand
+            (fresh number (min (length places.old) 12)) result.table }
         ensures history { HasHistory K.demand [] result.table }
         ensures memory { Emptied places.old result.table.places.now }
         ensures number { result.table.number ≡ number }
@@ -62,27 +62,45 @@ impl<'a, K: Kind + Drop> Register<'a, K> {
     /// Holds a row and at once keeps it. The answers are those of all rows then. A refusal, by the numbers 5 to 11, changes
     /// nothing.
     pub fn take_in(&mut self, row: Row, kind: K) -> Result<Answers, HoldRefusal>
-        ensures { (a : Account) → AgreesWith K.demand a self.old.table
-            → (b : Account) × KeepsRow a (record { row = row; demand = K.demand kind }) result b
+        ensures account { (a : Account) → AgreesWith K.demand a self.old.table
+            → (b : Account)
+            × KeepsRow a (record { row = row; demand = K.demand kind }) result b
             × AgreesWith K.demand b self.new.table }
+        ensures history { (es : List Event) → HasHistory K.demand es self.old.table
+            → HasHistory K.demand
+            (passing Way.KeepRow self.old.table.number
+            (record { row = row; demand = K.demand kind }) result es)
+            self.new.table }
     {
         self.pass(row, kind, Way::KeepRow)
     }
 
     /// Holds a row and at once gives it up. The answers are those of all rows with it. Nothing is left behind.
     pub fn try_out(&mut self, row: Row, kind: K) -> Result<Answers, HoldRefusal>
-        ensures { (a : Account) → AgreesWith K.demand a self.old.table
-            → (b : Account) × GivesRowUp a (record { row = row; demand = K.demand kind }) result b
+        ensures account { (a : Account) → AgreesWith K.demand a self.old.table
+            → (b : Account)
+            × GivesRowUp a (record { row = row; demand = K.demand kind }) result b
             × AgreesWith K.demand b self.new.table }
+        ensures history { (es : List Event) → HasHistory K.demand es self.old.table
+            → HasHistory K.demand
+            (passing Way.GiveUp self.old.table.number
+            (record { row = row; demand = K.demand kind }) result es)
+            self.new.table }
     {
         self.pass(row, kind, Way::GiveUp)
     }
 
     // Holds a row and at once spends its hold.
     fn pass(&mut self, row: Row, kind: K, way: Way) -> Result<Answers, HoldRefusal>
-        ensures { (a : Account) → AgreesWith K.demand a self.old.table
-            → (b : Account) × Passes way a (record { row = row; demand = K.demand kind }) result b
+        ensures account { (a : Account) → AgreesWith K.demand a self.old.table
+            → (b : Account)
+            × Passes way a (record { row = row; demand = K.demand kind }) result b
             × AgreesWith K.demand b self.new.table }
+        ensures history { (es : List Event) → HasHistory K.demand es self.old.table
+            → HasHistory K.demand
+            (passing way self.old.table.number
+            (record { row = row; demand = K.demand kind }) result es)
+            self.new.table }
     {
         let (hold, answers) = self.table.hold_answered(row, kind)?;
         match way {
@@ -96,7 +114,8 @@ impl<'a, K: Kind + Drop> Register<'a, K> {
     pub(crate) fn hold(&mut self, task: Task<K>) -> Result<Hold, HoldRefusal>
         ensures history { Continues K.demand
             (holding (claim_of K.demand task) result) self.old.table self.new.table }
-        ensures held { MatchResult result (GivesHoldOn self.old.table self.new.table task.row.number)
+        ensures held { MatchResult result
+            (GivesHoldOn self.old.table self.new.table task.row.number)
             (λ e. SameHeld self.old.table self.new.table) }
     {
         self.table.hold(task.row, task.kind)
@@ -104,7 +123,8 @@ impl<'a, K: Kind + Drop> Register<'a, K> {
 
     /// Spends a hold, and keeps its row or takes it out.
     pub(crate) fn spend(&mut self, way: Way, hold: Hold) -> Result<(), SpendRefusal>
-        ensures history { Continues K.demand (spending way hold result) self.old.table self.new.table }
+        ensures history { Continues K.demand (spending way hold result)
+            self.old.table self.new.table }
         ensures held { MatchResult result (λ _. SpendsHoldOn self.old.table self.new.table hold)
             (HandsBack self.old.table self.new.table hold) }
     {
@@ -116,7 +136,8 @@ impl<'a, K: Kind + Drop> Register<'a, K> {
 
     /// Takes a kept row out.
     pub(crate) fn withdraw(&mut self, number: u32) -> Result<(), WithdrawRefusal>
-        ensures history { Continues K.demand (withdrawing number result) self.old.table self.new.table }
+        ensures history { Continues K.demand (withdrawing number result)
+            self.old.table self.new.table }
         ensures held { SameHeld self.old.table self.new.table }
     {
         self.table.withdraw(number)

@@ -1,7 +1,7 @@
 -- What a table has been through, and what is then true of it. Assumes nothing.
 use Rattle.std.proofs.Common.{◌≡◌, ℕ, zero, suc, ◌<◌, min, true, List, [], ◌∷◌, ◌++◌, length, get_or, take, Some, None, Ok, Err, Option, Result, eqb, sym, refl, ap, ◌∙◌, subst, inl, inr, ◌⊎◌, arith, eqb-true}
 use mathlib.Core.Path.{ap₂}
-use Rattle.std.proofs.Math.Logic.{∥∥₁_elim, ∥∥₁_map}
+use Rattle.std.proofs.Math.Logic.{∥∥₁_elim, ∥∥₁_map, ∥∥₁_prop}
 use Rattle.std.specs.Prelude.{◌↔◌}
 use Rattle.std.specs.Coded.{Coded-set, coded_ℕ}
 use Rattle.std.proofs.lemmas.Bool.Decides.{nat_tests}
@@ -24,7 +24,7 @@ use Rattle.table.specs.declared.State.TheVariants.{Free, Held, Kept}
 use Rattle.table.specs.declared.Table.{Table}
 use Rattle.table.specs.Account.{Account, Bears, BoundOf, BoundsAnswered, bears, fresh, has_number, number_of, unspent}
 use Rattle.table.specs.Agreement.{AgreesWith, DistinctNumbers, Sound, StandsAt}
-use Rattle.table.specs.History.{History, HasHistory, Continues, EveryHistory, HasRank, JustBound, Promise, RowAt, StandsHeld, account_of, fresh_of, rows_at}
+use Rattle.table.specs.History.{History, HasHistory, HasSomeHistory, Continues, EveryHistory, HasRank, JustBound, Promise, RowAt, StandsHeld, account_of, fresh_of, rows_at}
 use Rattle.table.specs.Runs.{Event, holding, bounding, LateWithoutPlan, Run, Stands, Step, Unspent, after, after_all}
 use Rattle.table.proofs.Kept.{sound as sound_after}
 use Rattle.table.proofs.Lookups.{task_at}
@@ -47,6 +47,10 @@ continues demand t u e turns es known = ∥∥₁_map known (λ k.
       answered = subst (λ s. Run s (e ∷ es)) start (k.answered, subst (λ b. Step a e b) is p.1);
       agrees = subst (λ s. AgreesWith demand (after_all s (e ∷ es)) u) start (subst (λ b. AgreesWith demand b u) is p.2);
     })
+
+-- so a table that has been through some calls goes on with this one
+pub goes_on : {K : Type 0} (demand : K → Demand) (t u : Table K) (e : Event) → Continues demand e t u → HasSomeHistory demand t → HasSomeHistory demand u
+goes_on demand t u e f known = ∥∥₁_elim known ∥∥₁_prop (λ k. ∥∥₁_map (f k.0 ∣ k.1 ∣₁) (λ h. (e ∷ k.0, h)))
 
 -- a question for a bound
 pub asked : {K : Type 0} (demand : K → Demand) (t : Table K) (n : ℕ) (r : Result (ℕ × ℕ) BoundRefusal) → ((a : Account) → AgreesWith demand a t → BoundsAnswered a n r) → Continues demand (bounding n r) t t
@@ -245,6 +249,7 @@ module _ {K : Type 0} (demand : K → Demand) (es : List Event) (t : Table K) (h
   promise R V bounds = record {
     bounds = each_bound R V bounds;
     best_plan = best R V bounds;
+    rows = h.agrees.rows_are;
     late = late_then;
     next_late = late_only a sound;
     answered = h.answered;

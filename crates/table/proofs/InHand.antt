@@ -18,8 +18,7 @@ use Rattle.table.specs.declared.Table.{Table}
 use Rattle.table.specs.declared.WithdrawRefusal.{WithdrawRefusal}
 use Rattle.table.specs.Account.{Accepted, Account, Bears, Holds, Spends, Withdraws, bears, has_number, number_of, unspent, with_row}
 use Rattle.table.specs.Agreement.{AgreesWith, NoneNamed}
-use Rattle.table.specs.Accounted.{IsAccounted, IsHolding}
-use Rattle.table.specs.History.{Continues}
+use Rattle.table.specs.History.{Continues, HasSomeHistory, account_of}
 use Rattle.table.specs.Places.{has_held, is_held, HeldHere}
 use Rattle.table.specs.Runs.{keeping, releasing}
 use Rattle.table.specs.declared.State.{State}
@@ -28,6 +27,30 @@ use Rattle.table.proofs.Checks.{is_not_unspent, spent_applies}
 use Rattle.table.proofs.Histories.{continues}
 use Rattle.table.proofs.Lookups.{within}
 use Rattle.table.proofs.Spending.{held_at, not_unspent, still_ours}
+
+module _ {K : Type 0} (demand : K → Demand) (t : Table K) where
+  -- some account agrees with the table
+  pub record Accounted : Type 0 where
+    pub account : Account
+    pub agrees : AgreesWith demand account t
+
+  -- some account agrees with the table and has the hold among its unspent ones
+  pub record Holding (h : Hold) : Type 0 where
+    pub account : Account
+    pub agrees : AgreesWith demand account t
+    pub unspent_yet : unspent h.table h.row account.holds ≡ true
+
+  -- that some account agrees, and nothing of which one
+  abbrev pub IsAccounted : Type 0
+  IsAccounted = ∥ Accounted ∥₁
+
+  -- that the hold is an unspent one of the table, and nothing of which account says so
+  abbrev pub IsHolding : Hold → Type 0
+  IsHolding h = ∥ Holding h ∥₁
+
+-- a table that has been through some calls has such an account
+pub accounted_of : {K : Type 0} (demand : K → Demand) (t : Table K) → HasSomeHistory demand t → IsAccounted demand t
+accounted_of demand t known = ∥∥₁_map known (λ k. record { account = account_of k.0 t; agrees = k.1.agrees })
 
 abbrev hold_of : ℕ → ℕ → Hold
 hold_of table row = record { table = table; row = row }

@@ -7,7 +7,7 @@ use Rattle.demand.specs.Demand.{Demand}
 use Rattle.analysis.specs.declared.Task.{Task}
 use Rattle.analysis.specs.Candidates.{claims_of}
 use Rattle.analysis.specs.Plans.{BestPlan}
-use Rattle.analysis.specs.Ranks.{Claim, ranked, loads, at, system_of}
+use Rattle.analysis.specs.Ranks.{Claim, Reordered, ranked, loads, at, system_of}
 use Rattle.table.specs.declared.BoundRefusal.{BoundRefusal}
 use Rattle.table.specs.declared.Hold.{Hold}
 use Rattle.table.specs.declared.HoldRefusal.{HoldRefusal}
@@ -26,7 +26,7 @@ abbrev pub account_of : {K : Type 0} → List Event → Table K → Account
 account_of es t = after_all (fresh_of t) es
 
 module _ {K : Type 0} (demand : K → Demand) where
-  -- since the table was made, these calls were made on it and answered so, as the account answers them, and it is as they leave it
+  -- the account answers these calls so, from the fresh one on, and the table is as they leave it
   pub record History (es : List Event) (t : Table K) : Type 0 where
     pub answered : Run (fresh_of t) es
     pub agrees : AgreesWith demand (account_of es t) t
@@ -34,6 +34,10 @@ module _ {K : Type 0} (demand : K → Demand) where
   -- the same as a mere fact
   abbrev pub HasHistory : List Event → Table K → Type 0
   HasHistory es t = ∥ History es t ∥₁
+
+  -- the table has been through some calls
+  abbrev pub HasSomeHistory : Table K → Type 0
+  HasSomeHistory t = ∥ ((es : List Event) × History es t) ∥₁
 
   -- a call with its answer makes the table t the table u: whatever calls t has been through, u has been through this one too
   abbrev pub Continues : Event → Table K → Table K → Type 0
@@ -73,6 +77,8 @@ module _ {K : Type 0} (demand : K → Demand) where
     pub bounds : (p : ℕ) (c : Claim) → RowAt t p c → (k : ℕ) × HasRank t c k × JustBound es t (number_of c) (R k, V k)
     -- the vectors are a plan with these bounds, and no plan under which all rows are in time has a smaller bound for any row
     pub best_plan : BestPlan (system_of (rows_at t)) R V
+    -- the rows of the account after the calls are those at the places, in some order
+    pub rows : Reordered (rows_at t) (account_of es t).rows
     -- each hold among the calls was refused as late exactly when there was no plan, if it passed the checks before
     pub late : (later : List Event) (c : Claim) (r : Result Hold HoldRefusal) (earlier : List Event) → es ≡ later ++ holding c r ∷ earlier → LateWithoutPlan (account_of earlier t) c r
     -- and so will the next one be

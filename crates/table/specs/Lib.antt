@@ -3,6 +3,5 @@ pub mod Account
 pub mod Runs
 pub mod Agreement
 pub mod History
-pub mod Accounted
 pub mod Places
 pub mod Memory

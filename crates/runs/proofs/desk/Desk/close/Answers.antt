@@ -1,7 +1,7 @@
 use Rattle.std.proofs.Common.{◌≡◌, ◌∷◌, ◌++◌, [], List, append_assoc, map, subst, refl, ap, ◌∙◌, arith}
 use Rattle.std.specs.Vec.{vec_items}
 use Rattle.table.specs.declared.Hold.{Hold}
-use Rattle.runs.specs.Calls.{given_up}
+use Rattle.runs.specs.Calls.{release_of}
 use Rattle.runs.specs.Holds.{InHand}
 use Rattle.runs.proofs.Hands.{last_taken, no_items, without_last}
 use Rattle.runs.proofs.desk.Desk.close.Goals as goal
@@ -18,11 +18,11 @@ loop-hold-preserved g c =
       history = (
         c.in-Some.hold ∷ before.0,
         before.1 ∙ ap (λ (hs : List Hold). hs ++ before.0) c.in-Some.ensures.items ∙ append_assoc c.pop.new.self.items (c.in-Some.hold ∷ []) before.0,
-        λ es known. rw (← c.unwrap.ensures) (c.spend.ensures.history (map given_up before.0 ++ es) (before.2 es known)),
+        λ es known. rw (← c.unwrap.ensures) (c.spend.ensures.history (map release_of before.0 ++ es) (before.2 es known)),
       );
     }
 
-pub returns-clause-kept : goal.returns-clause-kept
-returns-clause-kept g c n =
+pub returns-clause-none_held : goal.returns-clause-none_held
+returns-clause-none_held g c n =
     let none : vec_items c.loop-hold.holds ≡ [] = no_items (vec_items c.loop-hold.holds) (omega (arith, c.loop-hold.invariant.count, c.in_default.ensures.cases)) in
     c.loop-hold.invariant.in_hand.exactly n ∙ rw none refl

@@ -4,7 +4,7 @@ use Rattle.std.specs.Vec.{vec_items, vec_len}
 use Rattle.table.specs.declared.Hold.{Hold}
 use Rattle.table.specs.History.{HasHistory}
 use Rattle.table.specs.Runs.{Event}
-use Rattle.runs.specs.Calls.{given_up}
+use Rattle.runs.specs.Calls.{release_of}
 use Rattle.runs.specs.Desk.{holds_of, table_of}
 use Rattle.runs.specs.Holds.{InHand}
 use Rattle.runs.proofs.desk.Desk.close.Given as goal
@@ -15,7 +15,7 @@ invariant-loop-hold g l =
     record {
       count : length (vec_items l.holds) ≡ vec_len l.holds;
       in_hand : InHand l.register.table (vec_items l.holds);
-      history : (done : List Hold) × (holds_of l.fn.self ≡ vec_items l.holds ++ done) × ((es : List Event) → HasHistory demand es (table_of l.fn.self) → HasHistory demand (map given_up done ++ es) l.register.table);
+      history : (done : List Hold) × (holds_of l.fn.self ≡ vec_items l.holds ++ done) × ((es : List Event) → HasHistory demand es (table_of l.fn.self) → HasHistory demand (map release_of done ++ es) l.register.table);
     }
 
 abbrev pub decreases-loop-hold : goal.decreases-loop-hold
