@@ -9,7 +9,8 @@ use Rattle.std.proofs.lemmas.List.Quantifiers.{all_pairs_push, all_pairs_remove,
 use Rattle.std.proofs.Math.Logic.{∥∥₁_elim}
 use Rattle.std.specs.Coded.{Coded-set, coded_bool}
 use Rattle.demand.specs.Demand.{Demand}
-use Rattle.table.specs.History.{Continues, HasHistory, fresh_of}
+use Rattle.analysis.specs.declared.Task.{Task}
+use Rattle.table.specs.History.{Continues, HasHistory}
 use Rattle.table.proofs.InHand.{has_held_is, keep_refused, release_refused}
 use Rattle.table.proofs.Spending.{not_ours}
 use Rattle.table.specs.declared.SpendRefusal.{SpendRefusal}
@@ -22,7 +23,7 @@ use Rattle.runs.specs.Calls.{on_row, spending}
 use Rattle.table.specs.declared.Hold.{Hold}
 use Rattle.table.specs.declared.Table.{Table}
 use Rattle.table.specs.Places.{has_held}
-use Rattle.runs.specs.Holds.{GivesHoldOn, HandsBack, InHand, SameHeld, SpendsHoldOn, has_hold, is_on, is_token}
+use Rattle.runs.specs.Holds.{GivesHoldOn, HandsBack, InHand, SameHeld, SpendsHoldOn, frame_of, has_hold, is_on, is_token}
 
 -- no hold is in hand at a table that was just made
 pub none_in_hand : {K : Type 0} (demand : K → Demand) (t : Table K) → HasHistory demand [] t → InHand t []
@@ -68,18 +69,18 @@ flip : (x y : Bool) → (x || y) ≡ (y || (x || false))
 flip x y = grind arith
 
 module _ {K : Type 0} (t u : Table K) (hs : List Hold) (known : InHand t hs) where
-  number_stays : fresh_of u ≡ fresh_of t → u.number ≡ t.number
-  number_stays e = ap (λ (a : Account). a.number) e
+  number_stays : frame_of u ≡ frame_of t → u.number ≡ t.number
+  number_stays e = ap (λ (x : Account × ℕ × List (Option (Task K))). x.0.number) e
 
   own_still : u.number ≡ t.number → All (λ h. h.table ≡ u.number) hs
   own_still e = λ i d l. known.own i d l ∙ sym e
 
   pub same_in_hand : SameHeld t u → InHand u hs
-  same_in_hand same = record { own = own_still (number_stays same.start); apart = known.apart; exactly = λ n. same.held n ∙ known.exactly n }
+  same_in_hand same = record { own = own_still (number_stays same.frame); apart = known.apart; exactly = λ n. same.held n ∙ known.exactly n }
 
   pub one_more : (n : ℕ) (h : Hold) → GivesHoldOn t u n h → InHand u (hs ++ h ∷ [])
   one_more n h given = record {
-    own = All-append (λ x. x.table ≡ u.number) hs (h ∷ []) (own_still (number_stays given.start)) (single (λ x. x.table ≡ u.number) h (given.table ∙ sym (number_stays given.start)));
+    own = All-append (λ x. x.table ≡ u.number) hs (h ∷ []) (own_still (number_stays given.frame)) (single (λ x. x.table ≡ u.number) h (given.table ∙ sym (number_stays given.frame)));
     apart = all_pairs_push RowsApart hs h known.apart (λ k d l q. none_on n hs (sym (known.exactly n) ∙ given.was) k d l (q ∙ given.row));
     exactly = λ m.
         given.held m
@@ -91,7 +92,7 @@ module _ {K : Type 0} (t u : Table K) (hs : List Hold) (known : InHand t hs) whe
 
   pub one_less : (i : ℕ) (h : Hold) → i < length hs → h ≡ get_or hs i h → SpendsHoldOn t u h → InHand u (remove hs i)
   one_less i h l is spent = record {
-    own = left (λ x. x.table ≡ u.number) hs i (own_still (number_stays spent.start));
+    own = left (λ x. x.table ≡ u.number) hs i (own_still (number_stays spent.frame));
     apart = all_pairs_remove RowsApart hs i l known.apart;
     exactly = λ m.
         spent.held m
@@ -195,6 +196,10 @@ module _ {K : Type 0} (t u : Table K) (hs : List Hold) (known : InHand t hs) (i 
   pub spent_surely : (r : Result (Unit {0}) SpendRefusal) → MatchResult r (λ _. SpendsHoldOn t u h) (HandsBack t u h) → SpendsHoldOn t u h
   spent_surely (Ok x) m = m
   spent_surely (Err e) m = absurd (both_ways (has_held t h.row) (m.why own_number) stands_held)
+
+pub same_frame : {K : Type 0} (t u : Table K) (h : Hold) (r : Result (Unit {0}) SpendRefusal) → MatchResult r (λ _. SpendsHoldOn t u h) (HandsBack t u h) → frame_of u ≡ frame_of t
+same_frame t u h (Ok x) m = m.frame
+same_frame t u h (Err e) m = m.held.frame
 
 -- the last hold in hand is spent without refusal
 module _ {K : Type 0} (t u : Table K) (hs : List Hold) (h : Hold) (known : InHand t (hs ++ h ∷ [])) (r : Result (Unit {0}) SpendRefusal) (m : MatchResult r (λ _. SpendsHoldOn t u h) (HandsBack t u h)) where

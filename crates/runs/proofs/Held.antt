@@ -1,12 +1,12 @@
 -- Which rows stand as held after a call. Assumes nothing.
-use Rattle.std.proofs.Common.{◌≡◌, ℕ, min, length, Bool, true, false, eqb, not, ◌&&◌, ◌||◌, MatchResult, Ok, Err, Result, sym, ap, ◌∙◌, subst, inl, inr, arith, eqb-true}
-use Rattle.std.proofs.Math.Path.{ap₂}
+use Rattle.std.proofs.Common.{◌≡◌, ℕ, List, Option, Bool, true, false, eqb, not, ◌&&◌, ◌||◌, MatchResult, Ok, Err, Result, sym, ap, ◌∙◌, subst, inl, inr, arith, eqb-true}
 use Rattle.std.proofs.Math.Logic.{∥∥₁_elim}
 use Rattle.std.specs.Coded.{Coded-set, coded_bool, coded_ℕ}
 use Rattle.std.proofs.lemmas.Bool.Decides.{nat_tests}
 use Rattle.std.proofs.lemmas.Bool.{cases_Bool, both_ways, false_from_ne_true}
 use Rattle.demand.specs.Demand.{Demand}
 use Rattle.demand.specs.Refusals.{first}
+use Rattle.analysis.specs.declared.Task.{Task}
 use Rattle.analysis.specs.Ranks.{Claim}
 use Rattle.table.specs.declared.Hold.{Hold}
 use Rattle.table.specs.declared.HoldRefusal.{HoldRefusal}
@@ -14,19 +14,15 @@ use Rattle.table.specs.declared.SpendRefusal.{SpendRefusal}
 use Rattle.table.specs.declared.SpendRefusal.TheVariants.{NotHeld}
 use Rattle.table.specs.declared.WithdrawRefusal.{WithdrawRefusal}
 use Rattle.table.specs.declared.Table.{Table}
-use Rattle.table.specs.Account.{Account, Holds, Spends, Withdraws, fresh, handed_back, number_of, spend_checks, spent, unspent, with_row, with_withdrawn}
+use Rattle.table.specs.Account.{Account, Holds, Spends, Withdraws, handed_back, number_of, spend_checks, spent, unspent}
 use Rattle.table.specs.Agreement.{AgreesWith}
-use Rattle.table.specs.History.{fresh_of}
 use Rattle.table.specs.Places.{has_held}
 use Rattle.table.proofs.Checks.{is_not_unspent, is_unspent}
 use Rattle.table.proofs.InHand.{IsAccounted, Turns, has_held_is, none_has, same_hold, same_holds}
 use Rattle.table.proofs.Parts.{others_stay, unspent_own, unspent_row}
 use Rattle.table.proofs.Shared.{passed}
 use Rattle.table.proofs.Spending.{spent_gone}
-use Rattle.runs.specs.Holds.{GivesHoldOn, HandsBack, SameHeld, SpendsHoldOn}
-
-both_stay : (a b : Account) → b ≡ a → (b.number ≡ a.number) × (b.room ≡ a.room)
-both_stay a b e = (ap (λ (x : Account). x.number) e, ap (λ (x : Account). x.room) e)
+use Rattle.runs.specs.Holds.{frame_of, GivesHoldOn, HandsBack, SameHeld, SpendsHoldOn}
 
 module _ {K : Type 0} (demand : K → Demand) (t u : Table K) (known : IsAccounted demand t) where
   -- what follows about numbers and tests from any account of the table before follows
@@ -36,35 +32,27 @@ module _ {K : Type 0} (demand : K → Demand) (t u : Table K) (known : IsAccount
   test_from : (x y : Bool) → ((a : Account) → AgreesWith demand a t → x ≡ y) → x ≡ y
   test_from x y f = ∥∥₁_elim known (Coded-set coded_bool _ _) (λ k. f k.account k.agrees)
 
-  module _ (R : Account → Account → Type 0) (turns : Turns demand t u R) (same_start : (a b : Account) → R a b → (b.number ≡ a.number) × (b.room ≡ a.room)) where
-    table_number : u.number ≡ t.number
-    table_number = number_from u.number t.number (λ a agrees.
+  -- the number of a table is part of its frame
+  same_number : frame_of u ≡ frame_of t → u.number ≡ t.number
+  same_number frame = ap (λ (x : Account × ℕ × List (Option (Task K))). x.0.number) frame
+
+  -- the same holds are unspent
+  same_held : (R : Account → Account → Type 0) → Turns demand t u R → frame_of u ≡ frame_of t → ((a b : Account) → R a b → b.holds ≡ a.holds) → SameHeld t u
+  same_held R turns frame same = record {
+    frame = frame;
+    held = λ n. test_from (has_held u n) (has_held t n) (λ a agrees.
         let p = turns a agrees in
-        sym p.2.number_is ∙ (same_start a p.0 p.1).0 ∙ agrees.number_is)
+        has_held_is u p.2 n
+        ∙ ap (unspent u.number n) (same a p.0 p.1)
+        ∙ ap (λ m. unspent m n a.holds) (same_number frame)
+        ∙ sym (has_held_is t agrees n));
+  }
 
-    table_start : fresh_of u ≡ fresh_of t
-    table_start = ap₂ fresh table_number (number_from (min (length u.places.now) 12) (min (length t.places.now) 12) (λ a agrees.
-        let p = turns a agrees in
-        sym p.2.room_is ∙ (same_start a p.0 p.1).1 ∙ agrees.room_is))
-
-    -- the same holds are unspent
-    pub same_held : ((a b : Account) → R a b → b.holds ≡ a.holds) → SameHeld t u
-    same_held same = record {
-      start = table_start;
-      held = λ n. test_from (has_held u n) (has_held t n) (λ a agrees.
-          let p = turns a agrees in
-          has_held_is u p.2 n
-          ∙ ap (unspent u.number n) (same a p.0 p.1)
-          ∙ ap (λ m. unspent m n a.holds) table_number
-          ∙ sym (has_held_is t agrees n));
-    }
-
-  pub gives : (c : Claim) (r : Result Hold HoldRefusal) → Turns demand t u (λ a b. Holds a c r b) → MatchResult r (GivesHoldOn t u (number_of c)) (λ e. SameHeld t u)
-  gives c (Ok h) turns =
-      let start = table_start (λ a b. Holds a c (Ok h) b) turns (λ a b s. both_stay (with_row a c) b s.1) in
-      let number : u.number ≡ t.number = ap (λ (x : Account). x.number) start in
+  pub gives : (c : Claim) (r : Result Hold HoldRefusal) → Turns demand t u (λ a b. Holds a c r b) → frame_of u ≡ frame_of t → MatchResult r (GivesHoldOn t u (number_of c)) (λ e. SameHeld t u)
+  gives c (Ok h) turns frame =
+      let number = same_number frame in
       record {
-        start = start;
+        frame = frame;
         table = number_from h.table t.number (λ a agrees. (turns a agrees).1.0.table ∙ agrees.number_is);
         row = number_from h.row (number_of c) (λ a agrees. (turns a agrees).1.0.row);
         was = test_from (has_held t (number_of c)) false (λ a agrees.
@@ -82,15 +70,14 @@ module _ {K : Type 0} (demand : K → Demand) (t u : Table K) (known : IsAccount
     where
       more : (x y m : ℕ) (b : Bool) → x ≡ y → ((eqb x y && eqb (number_of c) m) || b) ≡ (eqb (number_of c) m || b)
       more x y m b e = grind (arith, nat_tests)
-  gives c (Err e) turns = same_held (λ a b. Holds a c (Err e) b) turns (λ a b s. both_stay a b s.1) (λ a b s. ap (λ (x : Account). x.holds) s.1)
+  gives c (Err e) turns frame = same_held (λ a b. Holds a c (Err e) b) turns frame (λ a b s. ap (λ (x : Account). x.holds) s.1)
 
   -- keep and release, where `after` is the account with the hold spent
-  pub spends : (h : Hold) (after : Account → Account) → ((a : Account) → ((after a).number ≡ a.number) × ((after a).room ≡ a.room)) → ((a : Account) → (after a).holds ≡ spent h.table h.row a.holds) → (r : Result (Unit {0}) SpendRefusal) → Turns demand t u (λ a b. Spends a h (after a) r b) → MatchResult r (λ _. SpendsHoldOn t u h) (HandsBack t u h)
-  spends h after start_after holds_after (Ok x) turns =
-      let start = table_start (λ a b. Spends a h (after a) (Ok x) b) turns (λ a b s. let same = both_stay (after a) b s.1 in (same.0 ∙ (start_after a).0, same.1 ∙ (start_after a).1)) in
-      let number : u.number ≡ t.number = ap (λ (y : Account). y.number) start in
+  pub spends : (h : Hold) (after : Account → Account) → ((a : Account) → (after a).holds ≡ spent h.table h.row a.holds) → (r : Result (Unit {0}) SpendRefusal) → Turns demand t u (λ a b. Spends a h (after a) r b) → frame_of u ≡ frame_of t → MatchResult r (λ _. SpendsHoldOn t u h) (HandsBack t u h)
+  spends h after holds_after (Ok x) turns frame =
+      let number = same_number frame in
       record {
-        start = start;
+        frame = frame;
         table = number_from h.table t.number (λ a agrees. owned a agrees (turns a agrees).1.0 ∙ agrees.number_is);
         was = test_from (has_held t h.row) true (λ a agrees.
             let passes = (turns a agrees).1.0 in
@@ -117,18 +104,14 @@ module _ {K : Type 0} (demand : K → Demand) (t u : Table K) (known : IsAccount
             (subst (λ n. unspent n h.row (spent h.table h.row a.holds) ≡ false) own (spent_gone h.table h.row a.holds)))
         | inr e ↦ rw e (others_stay h.table h.row u.number m a.holds (λ q. both_ways (eqb h.row m) e (grind (arith, nat_tests))))
       ]
-  spends h after start_after holds_after (Err (NotHeld back)) turns = record {
+  spends h after holds_after (Err (NotHeld back)) turns frame = record {
     same = ap handed_back (same_hold demand t u h after (Err (NotHeld back)) turns known);
     why = λ ours. test_from (has_held t h.row) false (λ a agrees.
         has_held_is t agrees h.row
         ∙ ap (λ n. unspent n h.row a.holds) (sym ours)
         ∙ is_not_unspent (unspent h.table h.row a.holds) (turns a agrees).1.0);
-    held = same_held (λ a b. Spends a h (after a) (Err (NotHeld back)) b) turns (λ a b s. both_stay a b s.2) (λ a b s. ap (λ (x : Account). x.holds) s.2);
+    held = same_held (λ a b. Spends a h (after a) (Err (NotHeld back)) b) turns frame (λ a b s. ap (λ (x : Account). x.holds) s.2);
   }
 
-  start_withdrawn : (a b : Account) (n : ℕ) (r : Result (Unit {0}) WithdrawRefusal) → Withdraws a n r b → (b.number ≡ a.number) × (b.room ≡ a.room)
-  start_withdrawn a b n (Ok x) w = both_stay (with_withdrawn a n) b w.1
-  start_withdrawn a b n (Err e) w = both_stay a b w.1
-
-  pub withdraws : (n : ℕ) (r : Result (Unit {0}) WithdrawRefusal) → Turns demand t u (λ a b. Withdraws a n r b) → SameHeld t u
-  withdraws n r turns = same_held (λ a b. Withdraws a n r b) turns (λ a b w. start_withdrawn a b n r w) (λ a b w. same_holds a b n r w)
+  pub withdraws : (n : ℕ) (r : Result (Unit {0}) WithdrawRefusal) → Turns demand t u (λ a b. Withdraws a n r b) → frame_of u ≡ frame_of t → SameHeld t u
+  withdraws n r turns frame = same_held (λ a b. Withdraws a n r b) turns frame (λ a b w. same_holds a b n r w)

@@ -1,3 +1,4 @@
+pub mod Frame
 pub mod Held
 pub mod Passing
 pub mod Hands

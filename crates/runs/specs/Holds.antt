@@ -1,11 +1,12 @@
 -- Holds in hand, and what a call does to the rows that stand as held. Assumes nothing.
 -- How to read it: t is a table before a call and u the one after it, hs are holds, n is the number of a row.
-use Rattle.std.specs.Prelude.{◌≡◌, ◌≢◌, ℕ, Bool, true, false, not, ◌&&◌, ◌||◌, ◌==◌, List, All, AllPairs}
+use Rattle.std.specs.Prelude.{◌≡◌, ◌≢◌, ℕ, Bool, true, false, not, ◌&&◌, ◌||◌, ◌==◌, List, Option, All, AllPairs, drop}
 use Rattle.std.specs.List.{list_any}
+use Rattle.analysis.specs.declared.Task.{Task}
 use Rattle.table.specs.declared.Hold.{Hold}
 use Rattle.table.specs.declared.SpendRefusal.{SpendRefusal}
 use Rattle.table.specs.declared.Table.{Table}
-use Rattle.table.specs.Account.{handed_back}
+use Rattle.table.specs.Account.{Account, handed_back}
 use Rattle.table.specs.History.{fresh_of}
 use Rattle.table.specs.Places.{has_held}
 
@@ -26,6 +27,10 @@ abbrev pub has_own : ℕ → List Hold → Bool
 has_own table hs = list_any (λ h. h.table == table) hs
 
 module _ {K : Type 0} where
+  -- what no call changes: the number and the room of a table, the memory that it was lent, and what stands there behind the twelfth place
+  abbrev pub frame_of : Table K → Account × ℕ × List (Option (Task K))
+  frame_of t = (fresh_of t, t.places.ghost_name, drop 12 t.places.now)
+
   -- These holds are those in hand: each bears the table's number, no two are on one row, and a row stands as held exactly where one is on it.
   pub record InHand (t : Table K) (hs : List Hold) : Type 0 where
     pub own : All (λ h. h.table ≡ t.number) hs
@@ -33,14 +38,14 @@ module _ {K : Type 0} where
     pub exactly : (n : ℕ) → has_held t n ≡ has_hold n hs
 
   module _ (t u : Table K) where
-    -- the same rows stand as held, at a table of the same number and room
+    -- the same rows stand as held, in the same frame
     pub record SameHeld : Type 0 where
-      pub start : fresh_of u ≡ fresh_of t
+      pub frame : frame_of u ≡ frame_of t
       pub held : (n : ℕ) → has_held u n ≡ has_held t n
 
     -- a hold was given on the row n, which was not held before
     pub record GivesHoldOn (n : ℕ) (h : Hold) : Type 0 where
-      pub start : fresh_of u ≡ fresh_of t
+      pub frame : frame_of u ≡ frame_of t
       pub table : h.table ≡ t.number
       pub row : h.row ≡ n
       pub was : has_held t n ≡ false
@@ -48,7 +53,7 @@ module _ {K : Type 0} where
 
     -- the hold was spent, which bears the table's number and whose row was held, and its row is held no more
     pub record SpendsHoldOn (h : Hold) : Type 0 where
-      pub start : fresh_of u ≡ fresh_of t
+      pub frame : frame_of u ≡ frame_of t
       pub table : h.table ≡ t.number
       pub was : has_held t h.row ≡ true
       pub held : (m : ℕ) → has_held u m ≡ (not (h.row == m) && has_held t m)

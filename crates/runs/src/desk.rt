@@ -1,13 +1,14 @@
 // A table with the holds that it gave, and lists of calls that are run on it.
-ghost use Rattle.std.specs.Prelude.{◌≡◌, ◌≢◌, ℕ, List, ◌+◌, ◌<◌, ◌≤◌, [], ◌++◌, IfOk, OnErr, OnOk, length, min, map, position, true, false, vec_items, ◌↔◌};
+ghost use Rattle.std.specs.Prelude.{◌≡◌, ◌≢◌, ℕ, List, ◌+◌, ◌<◌, ◌≤◌, [], ◌++◌, IfOk, OnErr, OnOk, drop, length, min, map, position, true, false, vec_items, ◌↔◌};
 ghost use Rattle.std.specs.Vec.{vec_len, vec_capacity};
 ghost use Rattle.analysis.specs.Judge.{InTime, answers_of};
 ghost use Rattle.table.specs.Account.{fresh};
-ghost use Rattle.table.specs.History.{Continues, HasHistory, fresh_of, rows_at};
+ghost use Rattle.table.specs.History.{Continues, HasHistory, rows_at};
+ghost use Rattle.table.specs.Memory.{Emptied};
 ghost use Rattle.table.specs.Places.{has_held};
 ghost use Rattle.table.specs.Runs.{Event, holding};
 ghost use Rattle.runs.specs.Calls.{Follow, IsEvent, claim_of, hold_answer, release_of, spend_answer, spending, token};
-ghost use Rattle.runs.specs.Holds.{InHand, has_own, is_token};
+ghost use Rattle.runs.specs.Holds.{InHand, frame_of, has_own, is_token};
 ghost use Rattle.runs.specs.declared.desk.RunRefusal.TheVariants.{Memory as OutOfMemory};
 
 use super::call::{Call, HoldId, NotHeld, Reply, Way};
@@ -70,7 +71,9 @@ impl<'a, K: Kind + Drop> Desk<'a, K> {
     /// An empty table over row memory, of which it uses twelve places at most, and no hold. What stood there is let go.
     pub fn new(heap: Global, number: u8, places: &'a mut [Option<Task<K>>]) -> Desk<'a, K>
         ensures history { HasHistory K.demand [] (table_of result) }
-        ensures number_and_room { fresh_of (table_of result) ≡ fresh number (min (length places.old) 12) }
+        ensures frame { frame_of (table_of result)
+            ≡ (fresh number (min (length places.old) 12), places.entry.ghost_name, drop 12 places.old) }
+        ensures memory { Emptied places.old (table_of result).places.now }
     {
         Desk {
             register: Register::new(number, places),
@@ -105,7 +108,7 @@ impl<'a, K: Kind + Drop> Desk<'a, K> {
     pub fn run(&mut self, heap: Global, calls: Vec<Call<K>>) -> Result<Ran, AllocError>
         ensures promise { IfOk result (λ ran.
             RunsAsPromised K.demand (vec_items calls) ran (table_of self.old) (table_of self.new)) }
-        ensures number_and_room { fresh_of (table_of self.new) ≡ fresh_of (table_of self.old) }
+        ensures frame { frame_of (table_of self.new) ≡ frame_of (table_of self.old) }
         ensures refused { OnErr result (SameDesk self.old self.new) }
     {
         let replies = self.room_for(heap, calls.len())?;
@@ -126,7 +129,7 @@ impl<'a, K: Kind + Drop> Desk<'a, K> {
     ) -> Result<Ran, RunRefusal>
         ensures promise { IfOk result (λ ran.
             RunsAsPromised K.demand (vec_items calls) ran (table_of self.old) (table_of self.new)) }
-        ensures number_and_room { fresh_of (table_of self.new) ≡ fresh_of (table_of self.old) }
+        ensures frame { frame_of (table_of self.new) ≡ frame_of (table_of self.old) }
         ensures foreign { vec_items foreign.new ≡ vec_items foreign.old }
         ensures own_hold { (result ≡ Err RunRefusal.OwnHold)
             ↔ (has_own (table_of self.old).number (vec_items foreign.old) ≡ true) }
@@ -148,7 +151,7 @@ impl<'a, K: Kind + Drop> Desk<'a, K> {
     ) -> Result<Ran, RunRefusal>
         ensures promise { IfOk result (λ ran.
             RunsAsPromised K.demand (vec_items calls) ran (table_of self.old) (table_of self.new)) }
-        ensures number_and_room { fresh_of (table_of self.new) ≡ fresh_of (table_of self.old) }
+        ensures frame { frame_of (table_of self.new) ≡ frame_of (table_of self.old) }
         ensures other { SameDesk other.old other.new }
         ensures own_hold { (result ≡ Err RunRefusal.OwnHold)
             ↔ (has_own (table_of self.old).number (holds_of other.old) ≡ true) }
@@ -169,8 +172,8 @@ impl<'a, K: Kind + Drop> Desk<'a, K> {
     ) -> Result<(Desk<'a, K>, Ran), RunRefusal>
         ensures promise { IfOk result (λ r.
             KeepsPromise K.demand [] (vec_items calls) r.1 (table_of r.0)) }
-        ensures number_and_room { IfOk result (λ r. fresh_of (table_of r.0)
-            ≡ fresh number (min (length places.old) 12)) }
+        ensures frame { IfOk result (λ r. frame_of (table_of r.0)
+            ≡ (fresh number (min (length places.old) 12), places.entry.ghost_name, drop 12 places.old)) }
         ensures foreign { vec_items foreign.new ≡ vec_items foreign.old }
         ensures own_hold { (result ≡ Err RunRefusal.OwnHold)
             ↔ (has_own number (vec_items foreign.old) ≡ true) }
@@ -185,6 +188,7 @@ impl<'a, K: Kind + Drop> Desk<'a, K> {
         ensures history { (es : List Event) → HasHistory K.demand es (table_of self.entry)
             → HasHistory K.demand (map release_of (holds_of self.entry) ++ es) result }
         ensures none_held { (n : ℕ) → has_held result n ≡ false }
+        ensures frame { frame_of result ≡ frame_of (table_of self.entry) }
     {
         let Desk {
             mut register,
@@ -221,7 +225,7 @@ impl<'a, K: Kind + Drop> Desk<'a, K> {
         requires replies { vec_len calls ≤ vec_capacity replies }
         requires holds { vec_len self.old.holds + vec_len calls ≤ vec_capacity self.old.holds }
         ensures promise { RunsAsPromised K.demand (vec_items calls) result (table_of self.old) (table_of self.new) }
-        ensures number_and_room { fresh_of (table_of self.new) ≡ fresh_of (table_of self.old) }
+        ensures frame { frame_of (table_of self.new) ≡ frame_of (table_of self.old) }
         ensures foreign { vec_items foreign.new ≡ vec_items foreign.old }
     {
         self.make_all(calls, foreign, &mut replies);
@@ -236,7 +240,7 @@ impl<'a, K: Kind + Drop> Desk<'a, K> {
             (holding (claim_of K.demand task)
             (hold_answer (table_of self.old).number task.row.number result))
             (table_of self.old) (table_of self.new) }
-        ensures number_and_room { fresh_of (table_of self.new) ≡ fresh_of (table_of self.old) }
+        ensures frame { frame_of (table_of self.new) ≡ frame_of (table_of self.old) }
         ensures room { (vec_len self.new.holds ≤ vec_len self.old.holds + 1)
             × (vec_capacity self.new.holds ≡ vec_capacity self.old.holds) }
     {
@@ -250,7 +254,7 @@ impl<'a, K: Kind + Drop> Desk<'a, K> {
         requires { id.table ≡ (table_of self.old).number }
         ensures history { Continues K.demand (spending way (token id) (spend_answer (token id) result))
             (table_of self.old) (table_of self.new) }
-        ensures number_and_room { fresh_of (table_of self.new) ≡ fresh_of (table_of self.old) }
+        ensures frame { frame_of (table_of self.new) ≡ frame_of (table_of self.old) }
         ensures room { (vec_len self.new.holds ≤ vec_len self.old.holds)
             × (vec_capacity self.new.holds ≡ vec_capacity self.old.holds) }
     {
@@ -265,7 +269,7 @@ impl<'a, K: Kind + Drop> Desk<'a, K> {
         requires { id.table ≢ (table_of self.old).number }
         ensures history { Continues K.demand (spending way (token id) (spend_answer (token id) result))
             (table_of self.old) (table_of self.new) }
-        ensures number_and_room { fresh_of (table_of self.new) ≡ fresh_of (table_of self.old) }
+        ensures frame { frame_of (table_of self.new) ≡ frame_of (table_of self.old) }
         ensures room { self.new.holds ≡ self.old.holds }
         ensures foreign { vec_items foreign.new ≡ vec_items foreign.old }
     {
@@ -282,7 +286,7 @@ impl<'a, K: Kind + Drop> Desk<'a, K> {
         ensures history { Continues K.demand
             (spending way (token id) (spend_answer (token id) result))
             (table_of self.old) (table_of self.new) }
-        ensures number_and_room { fresh_of (table_of self.new) ≡ fresh_of (table_of self.old) }
+        ensures frame { frame_of (table_of self.new) ≡ frame_of (table_of self.old) }
         ensures room { (vec_len self.new.holds ≤ vec_len self.old.holds)
             × (vec_capacity self.new.holds ≡ vec_capacity self.old.holds) }
         ensures foreign { vec_items foreign.new ≡ vec_items foreign.old }
@@ -299,7 +303,7 @@ impl<'a, K: Kind + Drop> Desk<'a, K> {
         requires { vec_len self.old.holds < vec_capacity self.old.holds }
         ensures history { (e : Event) × IsEvent K.demand (table_of self.old).number call result e
             × Continues K.demand e (table_of self.old) (table_of self.new) }
-        ensures number_and_room { fresh_of (table_of self.new) ≡ fresh_of (table_of self.old) }
+        ensures frame { frame_of (table_of self.new) ≡ frame_of (table_of self.old) }
         ensures room { (vec_len self.new.holds ≤ vec_len self.old.holds + 1)
             × (vec_capacity self.new.holds ≡ vec_capacity self.old.holds) }
         ensures foreign { vec_items foreign.new ≡ vec_items foreign.old }
@@ -323,7 +327,7 @@ impl<'a, K: Kind + Drop> Desk<'a, K> {
             × Follow K.demand (table_of self.new).number
             (vec_items calls) (vec_items replies.new) es all
             × HasHistory K.demand all (table_of self.new) }
-        ensures number_and_room { fresh_of (table_of self.new) ≡ fresh_of (table_of self.old) }
+        ensures frame { frame_of (table_of self.new) ≡ frame_of (table_of self.old) }
         ensures foreign { vec_items foreign.new ≡ vec_items foreign.old }
     {
         let mut left = calls.into_iter();

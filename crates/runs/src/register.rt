@@ -1,13 +1,13 @@
 // A table that only its own calls have changed, with no hold in hand.
-ghost use Rattle.std.specs.Prelude.{◌≡◌, List, min, [], length, MatchResult};
+ghost use Rattle.std.specs.Prelude.{◌≡◌, List, min, [], length, MatchResult, OnErr};
 ghost use Rattle.analysis.specs.Judge.{InTime, answers_of};
 ghost use Rattle.table.specs.Account.{Account, fresh};
 ghost use Rattle.table.specs.Agreement.{AgreesWith};
 ghost use Rattle.table.specs.History.{Continues, HasHistory, HasSomeHistory, rows_at};
-ghost use Rattle.table.specs.Memory.{Emptied};
+ghost use Rattle.table.specs.Memory.{Emptied, SameTable};
 ghost use Rattle.table.specs.Runs.{Event, holding, withdrawing, bounding};
 ghost use Rattle.runs.specs.Calls.{claim_of, spending};
-ghost use Rattle.runs.specs.Holds.{SameHeld, GivesHoldOn, SpendsHoldOn, HandsBack};
+ghost use Rattle.runs.specs.Holds.{frame_of, SameHeld, GivesHoldOn, SpendsHoldOn, HandsBack};
 ghost use Rattle.runs.specs.Passing.{KeepsRow, GivesRowUp, Passes, passing};
 
 use super::call::Way;
@@ -71,6 +71,8 @@ impl<'a, K: Kind + Drop> Register<'a, K> {
             (passing Way.KeepRow self.old.table.number
             (record { row = row; demand = K.demand kind }) result es)
             self.new.table }
+        ensures refused { OnErr result (SameTable self.old.table self.new.table) }
+        ensures frame { frame_of self.new.table ≡ frame_of self.old.table }
     {
         self.pass(row, kind, Way::KeepRow)
     }
@@ -86,6 +88,8 @@ impl<'a, K: Kind + Drop> Register<'a, K> {
             (passing Way.GiveUp self.old.table.number
             (record { row = row; demand = K.demand kind }) result es)
             self.new.table }
+        ensures refused { OnErr result (SameTable self.old.table self.new.table) }
+        ensures frame { frame_of self.new.table ≡ frame_of self.old.table }
     {
         self.pass(row, kind, Way::GiveUp)
     }
@@ -101,6 +105,8 @@ impl<'a, K: Kind + Drop> Register<'a, K> {
             (passing way self.old.table.number
             (record { row = row; demand = K.demand kind }) result es)
             self.new.table }
+        ensures refused { OnErr result (SameTable self.old.table self.new.table) }
+        ensures frame { frame_of self.new.table ≡ frame_of self.old.table }
     {
         let (hold, answers) = self.table.hold_answered(row, kind)?;
         match way {

@@ -43,9 +43,14 @@ fn with_deadline(number: u32, deadline: u32) -> Task<Every> {
 }
 
 fn with_section(number: u32, length: u32) -> Task<Every> {
-    let mut task = task(number);
-    task.row.sections = [length, 0, 0, 0, 0, 0, 0, 0];
-    task
+    let Task { row, kind } = task(number);
+    Task {
+        row: Row {
+            sections: [length, 0, 0, 0, 0, 0, 0, 0],
+            ..row
+        },
+        kind,
+    }
 }
 
 fn hold(table: u8, row: u32) -> HoldId {

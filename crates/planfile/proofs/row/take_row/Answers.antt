@@ -13,7 +13,7 @@ returns-in_err-take_in c rows agrees =
     let p = err_from_is_err_and c.from_residual-in_err-take_in.result c.from_residual-in_err-take_in.ensures.1 in
     let task = c.in_ok-row.ensures in
     let same = same_claim c.args.clock c.args.line.now c.in_ok-row.field-0 task.1 in
-    let refused = c.in_err-take_in.ensures (taking rows) agrees in
+    let refused = c.in_err-take_in.ensures.account (taking rows) agrees in
     rw (p.1, p.2) (inr (task.0, (c.in_err-take_in.field-0.0, subst (λ (x : Claim). Refused (taking rows) x c.in_err-take_in.field-0.0) same refused.1.0, refl)))
 
 pub returns : goal.returns
@@ -21,7 +21,7 @@ returns c rows agrees =
     let task = c.in_ok-row.ensures in
     let claim = held_claim c.args.clock c.in_ok-row.field-0 in
     let same = same_claim c.args.clock c.args.line.now c.in_ok-row.field-0 task.1 in
-    let taken = c.in_ok-take_in.ensures (taking rows) agrees in (
+    let taken = c.in_ok-take_in.ensures.account (taking rows) agrees in (
       record { passes = task.0; token = hold_on (taking rows) claim; accepted = subst (λ (x : Claim). Accepted (taking rows) x (hold_on (taking rows) claim)) same taken.1.0.0 },
       subst (λ (x : Claim). RowsKept (x ∷ rows) c.take_in.new.self.table c.in_ok-take_in.field-0) same (taken_in rows claim c.in_ok-take_in.field-0 c.take_in.new.self.table taken),
     )

@@ -3,7 +3,7 @@ use Rattle.std.specs.Vec.{vec_items}
 use Rattle.table.specs.declared.Hold.{Hold}
 use Rattle.runs.specs.Calls.{release_of}
 use Rattle.runs.specs.Holds.{InHand}
-use Rattle.runs.proofs.Hands.{last_taken, no_items, without_last}
+use Rattle.runs.proofs.Hands.{last_taken, no_items, same_frame, without_last}
 use Rattle.runs.proofs.desk.Desk.close.Goals as goal
 
 pub unwrap-requires : goal.unwrap-requires
@@ -15,6 +15,7 @@ loop-hold-preserved g c =
     record {
       count = omega (arith, c.loop-hold.invariant.count, c.pop.ensures.cases);
       in_hand = without_last c.loop-hold.register.table c.spend.new.self.table c.pop.new.self.items c.in-Some.hold (subst (InHand c.loop-hold.register.table) c.in-Some.ensures.items c.loop-hold.invariant.in_hand) c.spend.result c.spend.ensures.held;
+      frame = same_frame c.loop-hold.register.table c.spend.new.self.table c.in-Some.hold c.spend.result c.spend.ensures.held ∙ c.loop-hold.invariant.frame;
       history = (
         c.in-Some.hold ∷ before.0,
         before.1 ∙ ap (λ (hs : List Hold). hs ++ before.0) c.in-Some.ensures.items ∙ append_assoc c.pop.new.self.items (c.in-Some.hold ∷ []) before.0,

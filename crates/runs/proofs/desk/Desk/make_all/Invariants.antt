@@ -2,11 +2,12 @@
 use Rattle.std.proofs.Common.{◌≡◌, ◌+◌, ◌≤◌, List, ◌++◌, length}
 use Rattle.std.specs.Vec.{vec_capacity, vec_items, vec_len}
 use Rattle.std.specs.Vec.Iter.{into_iter_items, into_iter_len}
-use Rattle.table.specs.History.{HasHistory, fresh_of}
+use Rattle.table.specs.History.{HasHistory}
 use Rattle.table.specs.Runs.{Event}
 use Rattle.runs.specs.declared.call.Reply.{Reply}
 use Rattle.runs.specs.Calls.{Follow}
 use Rattle.runs.specs.Desk.{table_of}
+use Rattle.runs.specs.Holds.{frame_of}
 use Rattle.runs.proofs.desk.Desk.make_all.Given as goal
 
 abbrev pub invariant-loop-call : goal.invariant-loop-call
@@ -15,7 +16,7 @@ invariant-loop-call g l =
     let number = (table_of l.self).number in
     record {
       count : length (into_iter_items l.left) ≡ into_iter_len l.left;
-      same_start : fresh_of (table_of l.self) ≡ fresh_of (table_of l.fn.self);
+      frame : frame_of (table_of l.self) ≡ frame_of (table_of l.fn.self);
       room_for_replies : vec_len l.replies + into_iter_len l.left ≤ vec_capacity l.replies;
       room_for_holds : vec_len l.self.holds + into_iter_len l.left ≤ vec_capacity l.self.holds;
       same_foreign : vec_items l.foreign ≡ vec_items l.fn.foreign;

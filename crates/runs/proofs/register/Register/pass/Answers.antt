@@ -1,7 +1,10 @@
+use Rattle.std.proofs.Common.{None, Some, ◌∙◌}
 use Rattle.std.proofs.lemmas.Result.{err_from_is_err_and}
+use Rattle.table.specs.declared.State.TheVariants.{Free, Held, Kept}
 use Rattle.table.specs.Account.{with_kept, with_released}
 use Rattle.table.proofs.Histories.{goes_on}
 use Rattle.table.proofs.InHand.{accounted_of}
+use Rattle.runs.proofs.Frame.{frame_put, marked_or_refused, put_or_refused}
 use Rattle.runs.proofs.Passing.{given_here, gives_row_up, keeps_row, refused_alike, spent_at_once}
 use Rattle.runs.proofs.register.Register.pass.Goals as goal
 
@@ -48,3 +51,13 @@ pub returns-in-GiveUp-clause-history : goal.returns-in-GiveUp-clause-history
 returns-in-GiveUp-clause-history g c es known =
     let is = given_here g.K.Kind.demand c.args.self.now.table c.hold_answered.new.self (record { row = c.args.row; demand = g.K.Kind.demand c.args.kind }) c.in_ok-hold.hold c.in_ok-hold.answers c.in_ok-hold.ensures.account (accounted_of g.K.Kind.demand c.args.self.now.table c.args.self.now.history) in
     rw (c.in-GiveUp.is, ← is, ← c.unwrap-in-GiveUp.ensures) (c.release.ensures.history _ (c.in_ok-hold.ensures.history es known))
+
+pub returns-in-KeepRow-clause-frame : goal.returns-in-KeepRow-clause-frame
+returns-in-KeepRow-clause-frame g c =
+    marked_or_refused c.hold_answered.new.self c.keep.new.self (Held c.in_ok-hold.hold.row) (Kept c.in_ok-hold.hold.row) c.keep.result c.keep.ensures.memory
+    ∙ frame_put c.args.self.now.table c.hold_answered.new.self Free (Held c.args.row.number) (Some (record { row = c.args.row; kind = c.args.kind })) c.in_ok-hold.ensures.memory
+
+pub returns-in-GiveUp-clause-frame : goal.returns-in-GiveUp-clause-frame
+returns-in-GiveUp-clause-frame g c =
+    put_or_refused c.hold_answered.new.self c.release.new.self (Held c.in_ok-hold.hold.row) Free None c.release.result c.release.ensures.memory
+    ∙ frame_put c.args.self.now.table c.hold_answered.new.self Free (Held c.args.row.number) (Some (record { row = c.args.row; kind = c.args.kind })) c.in_ok-hold.ensures.memory
