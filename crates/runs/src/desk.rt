@@ -72,7 +72,11 @@ impl<'a, K: Kind + Drop> Desk<'a, K> {
     pub fn new(heap: Global, number: u8, places: &'a mut [Option<Task<K>>]) -> Desk<'a, K>
         ensures history { HasHistory K.demand [] (table_of result) }
         ensures frame { frame_of (table_of result)
-            ≡ (fresh number (min (length places.old) 12), places.entry.ghost_name, drop 12 places.old) }
+            ≡ (
+              fresh number (min (length places.old) 12),
+              places.entry.ghost_name,
+              drop 12 places.old,
+            ) }
         ensures memory { Emptied places.old (table_of result).places.now }
     {
         Desk {
@@ -161,8 +165,8 @@ impl<'a, K: Kind + Drop> Desk<'a, K> {
     }
 
     /// Makes a table over row memory and runs a list of calls on it, as `run_with` does. The table comes back with the holds
-    /// that are in hand then, and more calls can be run on it. Of the row memory the first twelve places at most are used, and what stood
-    /// there is let go in any case.
+    /// that are in hand then, and more calls can be run on it. Of the row memory the first twelve places at most are used, and
+    /// what stood there is let go in any case.
     pub fn open(
         heap: Global,
         number: u8,
@@ -173,7 +177,11 @@ impl<'a, K: Kind + Drop> Desk<'a, K> {
         ensures promise { IfOk result (λ r.
             KeepsPromise K.demand [] (vec_items calls) r.1 (table_of r.0)) }
         ensures frame { IfOk result (λ r. frame_of (table_of r.0)
-            ≡ (fresh number (min (length places.old) 12), places.entry.ghost_name, drop 12 places.old)) }
+            ≡ (
+              fresh number (min (length places.old) 12),
+              places.entry.ghost_name,
+              drop 12 places.old,
+            )) }
         ensures foreign { vec_items foreign.new ≡ vec_items foreign.old }
         ensures own_hold { (result ≡ Err RunRefusal.OwnHold)
             ↔ (has_own number (vec_items foreign.old) ≡ true) }
@@ -224,7 +232,8 @@ impl<'a, K: Kind + Drop> Desk<'a, K> {
         requires none { vec_items replies ≡ [] }
         requires replies { vec_len calls ≤ vec_capacity replies }
         requires holds { vec_len self.old.holds + vec_len calls ≤ vec_capacity self.old.holds }
-        ensures promise { RunsAsPromised K.demand (vec_items calls) result (table_of self.old) (table_of self.new) }
+        ensures promise { RunsAsPromised K.demand (vec_items calls) result
+            (table_of self.old) (table_of self.new) }
         ensures frame { frame_of (table_of self.new) ≡ frame_of (table_of self.old) }
         ensures foreign { vec_items foreign.new ≡ vec_items foreign.old }
     {
@@ -252,7 +261,8 @@ impl<'a, K: Kind + Drop> Desk<'a, K> {
     // The hold in hand that bears these numbers is spent, if there is one.
     fn spend_own(&mut self, way: Way, id: HoldId) -> Result<(), NotHeld>
         requires { id.table ≡ (table_of self.old).number }
-        ensures history { Continues K.demand (spending way (token id) (spend_answer (token id) result))
+        ensures history { Continues K.demand
+            (spending way (token id) (spend_answer (token id) result))
             (table_of self.old) (table_of self.new) }
         ensures frame { frame_of (table_of self.new) ≡ frame_of (table_of self.old) }
         ensures room { (vec_len self.new.holds ≤ vec_len self.old.holds)
@@ -267,7 +277,8 @@ impl<'a, K: Kind + Drop> Desk<'a, K> {
     // The hold of another table that bears these numbers, if one was handed in, is handed to this table and comes back.
     fn offer(&mut self, way: Way, id: HoldId, foreign: &mut Vec<Hold>) -> Result<(), NotHeld>
         requires { id.table ≢ (table_of self.old).number }
-        ensures history { Continues K.demand (spending way (token id) (spend_answer (token id) result))
+        ensures history { Continues K.demand
+            (spending way (token id) (spend_answer (token id) result))
             (table_of self.old) (table_of self.new) }
         ensures frame { frame_of (table_of self.new) ≡ frame_of (table_of self.old) }
         ensures room { self.new.holds ≡ self.old.holds }
