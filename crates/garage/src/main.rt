@@ -111,11 +111,8 @@ fn second_table(rt: &HostRuntime, desk: &mut Desk<'_, Every>) -> anyhow::Result<
     println!(rt; "A second table gives a hold, which is handed to the first.")?;
     let mut places = [None; 4];
     let mut other = Desk::new(rt.alloc(), SECOND, &mut places);
-    let room = tell_room(rt, SECOND, other.table().room());
-    let mixed = mix_up(rt, desk, &mut other);
-    other.close();
-    room?;
-    mixed
+    tell_room(rt, SECOND, other.table().room())?;
+    mix_up(rt, desk, &mut other)
 }
 
 // A row is asked to leave while it is held, and then kept.
@@ -162,9 +159,6 @@ fn main(rt: HostRuntime) -> anyhow::Result<()> {
     let opened = Desk::open(heap, FIRST, &mut places, calls, &mut none);
     none.destroy_empty();
     let (mut desk, ran) = opened?;
-    let told = tell_replies(&rt, &rows, &ran.replies);
-    let played = evening(&rt, &mut desk);
-    desk.close();
-    told?;
-    played
+    tell_replies(&rt, &rows, &ran.replies)?;
+    evening(&rt, &mut desk)
 }
