@@ -66,7 +66,7 @@ impl From<AllocError> for RunRefusal {
 }
 
 impl<'a, K: Kind + Drop> Desk<'a, K> {
-    ghost use Rattle.runs.specs.Desk.{KeepsPromise, RunsAsPromised, SameDesk, holds_of, table_of};
+    ghost use Rattle.runs.specs.Desk.{CalledAsPromised, KeepsPromise, RunsAsPromised, SameDesk, holds_of, table_of};
 
     /// An empty table over row memory, of which it uses twelve places at most, and no hold. What stood there is let go.
     pub fn new(heap: Global, number: u8, places: &'a mut [Option<Task<K>>]) -> Desk<'a, K>
@@ -105,6 +105,21 @@ impl<'a, K: Kind + Drop> Desk<'a, K> {
         ensures { InTime (rows_at K.demand (table_of self.now)) (answers_of result) }
     {
         self.register.answers()
+    }
+
+    /// Makes one call. A call that names a hold which is not in hand is answered as the table would answer it. The only refusal
+    /// is for want of memory, and then nothing has changed.
+    pub fn call(&mut self, heap: Global, call: Call<K>) -> Result<Reply, AllocError>
+        ensures promise { IfOk result (λ reply.
+            CalledAsPromised K.demand call reply (table_of self.old) (table_of self.new)) }
+        ensures frame { frame_of (table_of self.new) ≡ frame_of (table_of self.old) }
+        ensures refused { OnErr result (SameDesk self.old self.new) }
+    {
+        self.holds.reserve(1)?;
+        let mut none = Vec::new(heap);
+        let reply = self.make(call, &mut none);
+        none.destroy_empty();
+        Ok(reply)
     }
 
     /// Runs a list of calls, in order. A call that names a hold which is not in hand is answered as the table would answer it.
