@@ -16,7 +16,7 @@ use Rattle.planfile.specs.declared.fault.Blame.{Blame}
 use Rattle.planfile.specs.Fault.{nothing, by, by_field, first_blame, line_blame, blame}
 use Rattle.either.specs.declared.Either.TheVariants.{Left, Right}
 use Rattle.planfile.specs.declared.word.Word.{Word}
-use Rattle.planfile.specs.Checks.{Jobs, fields_due, number_checks, word_checks, blaming_none, numbers_in, number_in, jobs_checks}
+use Rattle.planfile.specs.Checks.{Jobs, fields_due, number_checks, shape_checks, blaming_none, numbers_in, number_in, jobs_checks}
 use Rattle.planfile.specs.Reading.{file_checks}
 use Rattle.planfile.specs.Text.{is_number, field, word_of}
 
@@ -48,8 +48,8 @@ pub numbered_numbers : (fs : List (List ℕ)) (k n : ℕ) → Numbered (number_c
 numbered_numbers fs k zero = tt
 numbered_numbers fs k (suc n) = (nonzero 16 15 refl, numbered_numbers fs (k + 1) n)
 
-pub numbered_words : (fs : List (List ℕ)) → Numbered (word_checks fs)
-numbered_words fs = (nonzero 17 16 refl, (nonzero 15 14 refl, (nonzero 17 16 refl, (nonzero 15 14 refl, tt))))
+pub numbered_shape : (fs : List (List ℕ)) → Numbered (shape_checks fs)
+numbered_shape fs = (nonzero 15 14 refl, (nonzero 17 16 refl, (nonzero 15 14 refl, tt)))
 
 pub numbered_file : (text : List ℕ) (room : ℕ) → Numbered (file_checks text room)
 numbered_file text room = (nonzero 19 18 refl, (nonzero 18 17 refl, tt))
@@ -134,19 +134,19 @@ pub none_append : (cs ds : List (Bool × Blame)) → NoneApply cs → NoneApply 
 none_append [] ds h k = k
 none_append (c ∷ cs) ds h k = (h.0, none_append cs ds h.1 k)
 
--- A row line whose words pass has the fields that its kind asks for.
-pub record WordsPass (fs : List (List ℕ)) (kind : Word) : Type 0 where
+-- A row line whose shape passes has the fields that its kind asks for.
+pub record ShapePasses (fs : List (List ℕ)) (kind : Word) : Type 0 where
   pub enough : 16 ≤ length fs
   pub named : 0 < fields_due kind
   pub due : length fs ≡ fields_due kind
 
-pub words_pass : (fs : List (List ℕ)) → first_blame (word_checks fs) ≡ nothing → WordsPass fs (word_of (field 16 fs))
-words_pass fs e =
-    let none = none_apply (word_checks fs) (numbered_words fs) e in
+pub shape_passes : (fs : List (List ℕ)) → first_blame (shape_checks fs) ≡ nothing → ShapePasses fs (word_of (field 16 fs))
+shape_passes fs e =
+    let none = none_apply (shape_checks fs) (numbered_shape fs) e in
     record {
-      enough = ltb-false (length fs) 16 none.1.0;
-      named = omega (arith, eqb-false (fields_due (word_of (field 16 fs))) 0 none.1.1.0);
-      due = eqb-true (length fs) (fields_due (word_of (field 16 fs))) (not-false _ none.1.1.1.0);
+      enough = ltb-false (length fs) 16 none.0;
+      named = omega (arith, eqb-false (fields_due (word_of (field 16 fs))) 0 none.1.0);
+      due = eqb-true (length fs) (fields_due (word_of (field 16 fs))) (not-false _ none.1.1.0);
     }
 
 -- every fault has a number

@@ -15,10 +15,10 @@ use Rattle.demand.specs.declared.speed.Factor.{Factor}
 use Rattle.demand.specs.declared.speed.Slowed.{Slowed}
 use Rattle.planfile.specs.declared.fault.Blame.{Blame}
 use Rattle.planfile.specs.Fault.{nothing, by, first_blame}
-use Rattle.planfile.specs.Checks.{Jobs, row_of, task_of, word_checks, number_checks, number_in, line_checks, blaming_none, jobs_checks, jobs_demand, entry_of, row_demand}
+use Rattle.planfile.specs.Checks.{Jobs, row_of, task_of, shape_checks, number_checks, number_in, row_checks, blaming_none, jobs_checks, jobs_demand, entry_of, row_demand}
 use Rattle.planfile.specs.Reading.{taking, claim_in, RowsKept}
 use Rattle.std.proofs.lemmas.List.{map-append, append_assoc}
-use Rattle.planfile.proofs.Blames.{Numbered, passed, stopped, numbered_append, numbered_words, numbered_numbers, numbered_jobs, first_of_none}
+use Rattle.planfile.proofs.Blames.{Numbered, passed, stopped, numbered_append, numbered_shape, numbered_numbers, numbered_jobs, first_of_none}
 
 -- lists of checks in a row: what the first list does not decide, the next does
 module _ (w n m : List (Bool × Blame)) (j d : List (Bool × ℕ)) where
@@ -62,23 +62,23 @@ module _ (fs : List (List ℕ)) where
   abbrev of_delay : List (Bool × ℕ)
   of_delay = delayed_checks (number_in fs 7) (jobs_demand (entry_of fs).jobs)
 
-  -- the words are refused
-  pub by_words : (b : Blame) → b.number ≢ 0 → first_blame (word_checks fs) ≡ b → first_blame (line_checks fs) ≡ b
-  by_words = first_list (word_checks fs) (number_checks fs 2 14) numbers_of_jobs of_jobs of_delay
+  -- the shape is refused
+  pub by_shape : (b : Blame) → b.number ≢ 0 → first_blame (shape_checks fs) ≡ b → first_blame (row_checks fs) ≡ b
+  by_shape = first_list (shape_checks fs) (number_checks fs 2 14) numbers_of_jobs of_jobs of_delay
 
-  module _ (words : first_blame (word_checks fs) ≡ nothing) where
-    -- the words pass, and a number of the row is refused
-    pub by_numbers : (b : Blame) → b.number ≢ 0 → first_blame (number_checks fs 2 14) ≡ b → first_blame (line_checks fs) ≡ b
-    by_numbers = second_list (word_checks fs) (number_checks fs 2 14) numbers_of_jobs of_jobs of_delay (numbered_words fs) words
+  module _ (shape : first_blame (shape_checks fs) ≡ nothing) where
+    -- the shape passes, and a number of the row is refused
+    pub by_numbers : (b : Blame) → b.number ≢ 0 → first_blame (number_checks fs 2 14) ≡ b → first_blame (row_checks fs) ≡ b
+    by_numbers = second_list (shape_checks fs) (number_checks fs 2 14) numbers_of_jobs of_jobs of_delay (numbered_shape fs) shape
 
     module _ (numbers : first_blame (number_checks fs 2 14) ≡ nothing) where
       -- the numbers of the row pass, and the jobs are refused
-      pub by_jobs : (b : Blame) → b.number ≢ 0 → first_blame (numbers_of_jobs ++ blaming_none of_jobs) ≡ b → first_blame (line_checks fs) ≡ b
-      by_jobs = third_list (word_checks fs) (number_checks fs 2 14) numbers_of_jobs of_jobs of_delay (numbered_words fs) words (numbered_numbers fs 2 14) numbers
+      pub by_jobs : (b : Blame) → b.number ≢ 0 → first_blame (numbers_of_jobs ++ blaming_none of_jobs) ≡ b → first_blame (row_checks fs) ≡ b
+      by_jobs = third_list (shape_checks fs) (number_checks fs 2 14) numbers_of_jobs of_jobs of_delay (numbered_shape fs) shape (numbered_numbers fs 2 14) numbers
 
       -- the jobs pass, so the delay decides
-      pub by_delay : (k : ℕ) → first_blame (numbers_of_jobs ++ blaming_none of_jobs) ≡ nothing → k ≡ first of_delay → first_blame (line_checks fs) ≡ by k
-      by_delay k = fourth_list (word_checks fs) (number_checks fs 2 14) numbers_of_jobs of_jobs of_delay (numbered_words fs) words (numbered_numbers fs 2 14) numbers k
+      pub by_delay : (k : ℕ) → first_blame (numbers_of_jobs ++ blaming_none of_jobs) ≡ nothing → k ≡ first of_delay → first_blame (row_checks fs) ≡ by k
+      by_delay k = fourth_list (shape_checks fs) (number_checks fs 2 14) numbers_of_jobs of_jobs of_delay (numbered_shape fs) shape (numbered_numbers fs 2 14) numbers k
           (numbered_append numbers_of_jobs (blaming_none of_jobs) (numbered_numbers fs 17 (length fs - 16)) (numbered_jobs (entry_of fs).jobs))
 
 -- what was read of a row line, by its parts

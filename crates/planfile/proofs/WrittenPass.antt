@@ -6,7 +6,7 @@ use Rattle.demand.specs.declared.speed.Factor.{Factor}
 use Rattle.either.specs.declared.Either.TheVariants.{Left, Right}
 use Rattle.planfile.specs.Fault.{nothing, first_blame, by}
 use Rattle.planfile.specs.Text.{fields, field, word_of, value, is_number}
-use Rattle.planfile.specs.Checks.{Jobs, Entry, number_checks, blaming_none, clock_of, clock_checks, entry_of, jobs_in, word_checks, text_checks, kind_checks, line_checks}
+use Rattle.planfile.specs.Checks.{Jobs, Entry, number_checks, blaming_none, clock_of, clock_checks, entry_of, jobs_in, shape_checks, text_checks, kind_checks, line_checks}
 use Rattle.planfile.specs.Laws.{numbers_of, AllFit, jobs_numbers, Writable}
 use Rattle.planfile.proofs.Joined.{Parts, fields_are}
 use Rattle.planfile.proofs.WrittenLines.{reads, number_passes, decimal_parts, row_parts, row_parts_are, row_word, row_line, clock_word, clock_parts, clock_line}
@@ -96,9 +96,9 @@ module _ (e : Entry) (ss : List ℕ) where
   abbrev line : Jobs → List (List ℕ)
   line jobs = row_written (eight jobs)
 
-  words_pass : (jobs : Jobs) → NoneApply (word_checks (line jobs))
-  words_pass (Left k) = (refl, (refl, (refl, (refl, tt))))
-  words_pass (Right k) = (refl, (refl, (refl, (refl, tt))))
+  shape_passes : (jobs : Jobs) → NoneApply (shape_checks (line jobs))
+  shape_passes (Left k) = (refl, (refl, (refl, tt)))
+  shape_passes (Right k) = (refl, (refl, (refl, tt)))
 
   front_passes : (jobs : Jobs) → AllFit (numbers_of (eight jobs)) → NoneApply (number_checks (line jobs) 2 14)
   front_passes jobs n =
@@ -115,7 +115,7 @@ module _ (e : Entry) (ss : List ℕ) where
 
   eight_said : (jobs : Jobs) → SaidByLine (eight jobs)
   eight_said jobs n j = (
-    none_append (word_checks (line jobs)) (number_checks (line jobs) 2 14 ++ number_checks (line jobs) 17 (length (line jobs) - 16)) (words_pass jobs)
+    none_append (shape_checks (line jobs)) (number_checks (line jobs) 2 14 ++ number_checks (line jobs) 17 (length (line jobs) - 16)) (shape_passes jobs)
         (none_append (number_checks (line jobs) 2 14) (number_checks (line jobs) 17 (length (line jobs) - 16)) (front_passes jobs n) (back_passes jobs j)),
     λ i. record {
       row = record {

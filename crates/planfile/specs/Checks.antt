@@ -123,18 +123,17 @@ pub record Entry : Type 0 where
 abbrev pub entry_of : List (List ℕ) → Entry
 entry_of fs = record { row = row_of fs; delay = number_in fs 7; jobs = jobs_in fs (word_of (field 16 fs)) }
 
--- When the words of a row line are refused, or how many fields it has, in this order.
-abbrev pub word_checks : List (List ℕ) → List (Bool × Blame)
-word_checks fs =
-    (not (is_row (word_of (field 1 fs))), by_field 17 1)
-    ∷ (nat_lt (length fs) 16, by 15)
+-- When a row line is refused for how many fields it has, or for the word that names its kind, in this order.
+abbrev pub shape_checks : List (List ℕ) → List (Bool × Blame)
+shape_checks fs =
+    (nat_lt (length fs) 16, by 15)
     ∷ ((fields_due (word_of (field 16 fs)) == 0), by_field 17 16)
     ∷ (not (length fs == fields_due (word_of (field 16 fs))), by 15)
     ∷ []
 
--- When the text of a row line is refused, in this order.
+-- When the text behind the first word of a row line is refused, in this order.
 abbrev pub text_checks : List (List ℕ) → List (Bool × Blame)
-text_checks fs = word_checks fs ++ (number_checks fs 2 14 ++ number_checks fs 17 (length fs - 16))
+text_checks fs = shape_checks fs ++ (number_checks fs 2 14 ++ number_checks fs 17 (length fs - 16))
 
 -- what jobs mean
 abbrev pub jobs_demand : Jobs → Demand
@@ -162,9 +161,13 @@ abbrev pub Reads : {A : Type 0} → List (Bool × Blame) → A → Result A Line
 Reads checks x (Ok y) = (first_blame checks ≡ nothing) × (y ≡ x)
 Reads checks x (Err f) = first_blame checks ≡ line_blame f
 
+-- When what stands behind the first word of a row line is refused, before the row is held, in this order.
+abbrev pub row_checks : List (List ℕ) → List (Bool × Blame)
+row_checks fs = text_checks fs ++ blaming_none (kind_checks (entry_of fs))
+
 -- When a row line is refused before its row is held, in this order.
 abbrev pub line_checks : List (List ℕ) → List (Bool × Blame)
-line_checks fs = text_checks fs ++ blaming_none (kind_checks (entry_of fs))
+line_checks fs = (not (is_row (word_of (field 1 fs))), by_field 17 1) ∷ row_checks fs
 
 -- the row of a row line with its kind, but for the clock
 abbrev pub task_of : List (List ℕ) → Task (Delayed Jobs)

@@ -4,7 +4,7 @@ ghost use Rattle.analysis.specs.Ranks.{Claim};
 ghost use Rattle.table.specs.Agreement.{AgreesWith};
 ghost use Rattle.planfile.specs.Text.{field, word_of};
 ghost use Rattle.planfile.specs.Fault.{line_blame};
-ghost use Rattle.planfile.specs.Checks.{clock_checks, clock_of, word_checks, number_checks, number_in, numbers_in, fields_due, row_of, jobs_in, jobs_checks, blaming_none, line_checks, task_of, row_demand, Reads};
+ghost use Rattle.planfile.specs.Checks.{clock_checks, clock_of, shape_checks, number_checks, number_in, numbers_in, fields_due, row_of, jobs_in, jobs_checks, blaming_none, line_checks, row_checks, task_of, row_demand, Reads};
 ghost use Rattle.planfile.specs.Reading.{taking, claim_in, RowTaken, RowRefused, RowsKept};
 ghost use Rattle.planfile.specs.Cut.{Keeps};
 
@@ -57,14 +57,10 @@ pub(crate) fn read_clock(line: &Line) -> Result<Factor, LineFault>
     Ok(Factor::new(numerator, denominator)?)
 }
 
-// Checks the words of a row line and how many fields it has. The answer is the word that names the kind. The first lines are
-// as for a clock line, but for the word: no plainer as a function of both.
-fn check_words(line: &Line) -> Result<Word, LineFault>
-    ensures { Reads (word_checks line.now) (word_of (field 16 line.now)) result }
+// Checks how many fields a row line has, and the word that names the kind, which is the answer.
+fn check_shape(line: &Line) -> Result<Word, LineFault>
+    ensures { Reads (shape_checks line.now) (word_of (field 16 line.now)) result }
 {
-    let Word::Row = read_word(line.first()) else {
-        return Err(LineFault::Word(1));
-    };
     if line.count() < 16 {
         return Err(LineFault::Count);
     }
@@ -117,15 +113,25 @@ fn read_jobs(line: &Line, kind: Word) -> Result<Jobs, LineFault>
     }
 }
 
-// The row of a row line, with its kind but for the clock.
-fn read_row(line: &Line) -> Result<Task<Delayed<Jobs>>, LineFault>
-    ensures { Reads (line_checks line.now) (task_of line.now) result }
+// What stands behind the first word of a row line: the row, with its kind but for the clock.
+pub(crate) fn read_row(line: &Line) -> Result<Task<Delayed<Jobs>>, LineFault>
+    ensures { Reads (row_checks line.now) (task_of line.now) result }
 {
-    let word = check_words(line)?;
+    let word = check_shape(line)?;
     let (row, delay) = read_plain(line)?;
     let jobs = read_jobs(line, word)?;
     let kind = Delayed::new(jobs, delay)?;
     Ok(Task { row, kind })
+}
+
+// The row of a row line, with its kind but for the clock.
+fn read_row_line(line: &Line) -> Result<Task<Delayed<Jobs>>, LineFault>
+    ensures { Reads (line_checks line.now) (task_of line.now) result }
+{
+    let Word::Row = read_word(line.first()) else {
+        return Err(LineFault::Word(1));
+    };
+    read_row(line)
 }
 
 // Takes in the row of a row line. The answers are those of all rows in the table then.
@@ -140,7 +146,7 @@ pub(crate) fn take_row(
         × RowsKept (claim_in clock line.now ∷ rows) register.new.table all)
         (λ f. RowRefused clock rows line.now (line_blame f)) }
 {
-    let Task { row, kind } = read_row(line)?;
+    let Task { row, kind } = read_row_line(line)?;
     let kind = Slowed {
         kind,
         factor: clock,

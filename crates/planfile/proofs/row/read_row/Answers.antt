@@ -1,14 +1,14 @@
 -- What is refused first is refused for the first of the checks that applies.
 use Rattle.std.proofs.Common.{sym, ◌∙◌, subst}
 use Rattle.std.proofs.lemmas.Result.{err_from_is_err_and}
-use Rattle.planfile.proofs.Blames.{fault_numbered, WordsPass, words_pass}
-use Rattle.planfile.proofs.Taking.{by_words, by_numbers, by_jobs, by_delay, delay_is, task_is}
+use Rattle.planfile.proofs.Blames.{fault_numbered, ShapePasses, shape_passes}
+use Rattle.planfile.proofs.Taking.{by_shape, by_numbers, by_jobs, by_delay, delay_is, task_is}
 use Rattle.planfile.proofs.row.read_row.Goals as goal
 
 pub returns-in_err-word : goal.returns-in_err-word
 returns-in_err-word c =
     let p = err_from_is_err_and c.from_residual.result c.from_residual.ensures.1 in
-    rw (p.1, p.2) (by_words c.args.line.now _ (fault_numbered _) c.in_err-word.ensures)
+    rw (p.1, p.2) (by_shape c.args.line.now _ (fault_numbered _) c.in_err-word.ensures)
 
 pub returns-in_err-row : goal.returns-in_err-row
 returns-in_err-row c =
@@ -18,7 +18,7 @@ returns-in_err-row c =
 pub read_jobs-requires : goal.read_jobs-requires
 read_jobs-requires c =
     let words = c.in_ok-word.ensures in
-    let pass = subst (WordsPass c.args.line.now) (sym words.1) (words_pass c.args.line.now words.0) in
+    let pass = subst (ShapePasses c.args.line.now) (sym words.1) (shape_passes c.args.line.now words.0) in
     record { named = pass.named; due = pass.due }
 
 pub returns-in_err-jobs : goal.returns-in_err-jobs
