@@ -9,7 +9,7 @@ use Rattle.table.specs.declared.HoldRefusal.{HoldRefusal}
 use Rattle.table.specs.declared.HoldRefusal.TheVariants.{Number as OfNumber, Priority, Suspension, Deadline, Section, NoPlace, Late}
 use Rattle.table.specs.Account.{hold_number}
 use Rattle.planfile.specs.declared.fault.LineFault.{LineFault}
-use Rattle.planfile.specs.declared.fault.LineFault.TheVariants.{Word as OfWord, Count, Number, Kind, Hold}
+use Rattle.planfile.specs.declared.fault.LineFault.TheVariants.{Word as OfWord, Length, Count, Number, Kind, Hold}
 use Rattle.planfile.specs.declared.fault.Fault.{Fault}
 use Rattle.planfile.specs.declared.fault.Fault.TheVariants.{ReportMemory, File, Line}
 use Rattle.planfile.specs.declared.fault.Blame.{Blame}
@@ -18,6 +18,7 @@ use Rattle.either.specs.declared.Either.TheVariants.{Left, Right}
 use Rattle.planfile.specs.declared.word.Word.{Word}
 use Rattle.planfile.specs.Checks.{Jobs, fields_due, number_checks, shape_checks, blaming_none, numbers_in, number_in, jobs_checks}
 use Rattle.planfile.specs.Reading.{file_checks}
+use Rattle.planfile.specs.Requests.{end_checks}
 use Rattle.planfile.specs.Text.{is_number, field, word_of}
 
 -- each check has a number
@@ -54,6 +55,9 @@ numbered_shape fs = (nonzero 15 14 refl, (nonzero 17 16 refl, (nonzero 15 14 ref
 pub numbered_file : (text : List ℕ) (room : ℕ) → Numbered (file_checks text room)
 numbered_file text room = (nonzero 19 18 refl, (nonzero 18 17 refl, tt))
 
+pub numbered_end : (text : List ℕ) → Numbered (end_checks text)
+numbered_end text = (nonzero 18 17 refl, tt)
+
 pub kind_numbered : (e : KindRefusal) → refusal_number e ≢ 0
 kind_numbered Job = nonzero 1 0 refl
 kind_numbered Period = nonzero 2 1 refl
@@ -72,6 +76,7 @@ hold_numbered (Late n) = nonzero 11 10 refl
 -- every fault of a line has a number
 pub fault_numbered : (f : LineFault) → (line_blame f).number ≢ 0
 fault_numbered (OfWord k) = nonzero 17 16 refl
+fault_numbered Length = nonzero 18 17 refl
 fault_numbered Count = nonzero 15 14 refl
 fault_numbered (Number k) = nonzero 16 15 refl
 fault_numbered (Kind e) = kind_numbered e

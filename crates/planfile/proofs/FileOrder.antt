@@ -8,7 +8,7 @@ use Rattle.planfile.specs.declared.fault.Blame.{Blame}
 use Rattle.planfile.specs.Fault.{at_line, first_blame, blame}
 use Rattle.planfile.specs.Text.{fields}
 use Rattle.planfile.specs.Checks.{clock_checks}
-use Rattle.planfile.specs.Reading.{claim_in, clock_fields, file_checks, RowTaken, RowRefused, RowsRead, FileRead}
+use Rattle.planfile.specs.Reading.{claim_in, first_fields, file_checks, RowTaken, RowRefused, RowsRead, FileRead}
 use Rattle.planfile.specs.Loading.{Loaded}
 use Rattle.planfile.specs.Laws.{row_lines, factor_of, rows_onto, AllTaken, FirstFault, InFileOrder}
 
@@ -94,7 +94,7 @@ pub file_order_err : (text : List ℕ) (room : ℕ) (b : Blame) → FileRead tex
 file_order_err text room b (inl x) =
     let e = same_err b (first_blame (file_checks text room)) x.1 in
     inl (sym e, subst (λ (c : Blame). c.number ≢ 0) (sym e) x.0)
-file_order_err text room b (inr (pass, inl x)) = inr (pass, inl (x.0, same_err b (at_line 1 (first_blame (clock_checks (clock_fields text)))) x.1))
+file_order_err text room b (inr (pass, inl x)) = inr (pass, inl (x.0, same_err b (at_line 1 (first_blame (clock_checks (first_fields text)))) x.1))
 file_order_err text room b (inr (pass, inr x)) =
     let fault = rows_fault (factor_of text) 2 [] (row_lines text) b x.1 in
     inr (

@@ -11,7 +11,7 @@ use Rattle.planfile.specs.Checks.{clock_checks, line_checks}
 use Rattle.planfile.specs.Fault.{nothing, first_blame, line_blame}
 use Rattle.planfile.specs.Figures.{even_clock, car_hold, garage_file, car_13, car_14, meters_8, meters_9, rows_in, file_rows, car_refused}
 use Rattle.planfile.specs.Laws.{factor_of, row_lines}
-use Rattle.planfile.specs.Reading.{taking, claim_in, clock_fields, file_checks, RowTaken, RowsRead, FileRead}
+use Rattle.planfile.specs.Reading.{taking, claim_in, first_fields, file_checks, RowTaken, RowsRead, FileRead}
 use Rattle.planfile.specs.Text.{fields}
 use Rattle.planfile.proofs.GarageCalls.{car_accepted, car_late, meters_late}
 use Rattle.planfile.proofs.GarageRows.{row_1, row_2, row_3, one_row, two_rows}
@@ -28,7 +28,7 @@ reader = fields (line_at garage_file 1)
 -- with these deadlines, and the card reader.
 record Gives (text : List ℕ) (m c : ℕ) : Type 0 where
   whole : first_blame (file_checks text 512) ≡ nothing
-  clock : first_blame (clock_checks (clock_fields text)) ≡ nothing
+  clock : first_blame (clock_checks (first_fields text)) ≡ nothing
   even : factor_of text ≡ even_clock
   three : row_lines text ≡ line_at text 0 ∷ line_at garage_file 1 ∷ line_at text 2 ∷ []
   meters_pass : first_blame (line_checks (fields (line_at text 0))) ≡ nothing

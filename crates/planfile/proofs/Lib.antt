@@ -14,6 +14,8 @@ pub mod OneAnswer
 pub mod Parted
 pub mod Cutting
 pub mod Words
+pub mod Verbs
+pub mod Requests
 pub mod Reporting
 pub mod Answering
 pub mod Loads

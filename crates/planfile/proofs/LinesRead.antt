@@ -15,7 +15,7 @@ use Rattle.demand.specs.declared.speed.Factor.{Factor}
 use Rattle.planfile.specs.declared.fault.Blame.{Blame}
 use Rattle.planfile.specs.Fault.{nothing, at_line, first_blame}
 use Rattle.planfile.specs.Checks.{clock_checks, clock_of}
-use Rattle.planfile.specs.Reading.{claim_in, clock_fields, RowTaken, RowRefused, RowsRead, LinesRead}
+use Rattle.planfile.specs.Reading.{claim_in, first_fields, RowTaken, RowRefused, RowsRead, LinesRead}
 use Rattle.planfile.specs.declared.reader.Reader.{Reader}
 use Rattle.planfile.specs.Cut.{lines_left}
 use Rattle.planfile.specs.Laws.{row_lines}
@@ -28,7 +28,7 @@ first_of [] line rest e = absurd (cc)
 first_of (l ∷ ls) line rest e = (cc, cc)
 
 -- a reader gives the clock line, and the row lines are left
-pub first_line : (file : List ℕ) (r s : Reader) (o : Option (List (List ℕ))) (line : List (List ℕ)) → r.text.now ≡ file → YieldsFirst lines_left r o s → o ≡ Some line → (line ≡ clock_fields file) × (lines_left s ≡ map fields (row_lines file))
+pub first_line : (file : List ℕ) (r s : Reader) (o : Option (List (List ℕ))) (line : List (List ℕ)) → r.text.now ≡ file → YieldsFirst lines_left r o s → o ≡ Some line → (line ≡ first_fields file) × (lines_left s ≡ map fields (row_lines file))
 first_line file r s o line text step is =
     first_of (lines file) line (lines_left s) (ap (λ t. map fields (lines t)) (sym text) ∙ rw is at step)
 
@@ -66,7 +66,7 @@ line_at ls k i line (lt, e) =
     (within, omega arith, ap (λ (p : ℕ × List (List ℕ)). p.1) is ∙ get_or-map fields ls k [] line within)
 
 -- the clock line passes, so the row lines decide
-pub clock_taken : (text : List ℕ) (clock : Factor) (r : Result (List Claim) Blame) → first_blame (clock_checks (clock_fields text)) ≡ nothing → clock ≡ clock_of (clock_fields text) → RowsRead clock 2 [] (row_lines text) r → LinesRead text r
+pub clock_taken : (text : List ℕ) (clock : Factor) (r : Result (List Claim) Blame) → first_blame (clock_checks (first_fields text)) ≡ nothing → clock ≡ clock_of (first_fields text) → RowsRead clock 2 [] (row_lines text) r → LinesRead text r
 clock_taken text clock r e is rows = inr (e, subst (λ (k : Factor). RowsRead k 2 [] (row_lines text) r) is rows)
 
 module _ (clock : Factor) (n : ℕ) (rows : List Claim) (ls : List (List ℕ)) (k : ℕ) (within : k < length ls) (fs : List (List ℕ)) (here : fs ≡ fields (get_or ls k [])) where

@@ -18,7 +18,7 @@ use Rattle.planfile.specs.declared.fault.Blame.{Blame}
 use Rattle.planfile.specs.Fault.{nothing, at_line, first_blame, line_blame, blame}
 use Rattle.planfile.specs.Text.{fields}
 use Rattle.planfile.specs.Checks.{clock_checks, entry_of}
-use Rattle.planfile.specs.Reading.{taking, claim_in, clock_fields, file_checks, RowTaken, RowRefused, RowsRead, FileRead}
+use Rattle.planfile.specs.Reading.{taking, claim_in, first_fields, file_checks, RowTaken, RowRefused, RowsRead, FileRead}
 use Rattle.planfile.specs.Loading.{Loaded}
 use Rattle.planfile.specs.Laws.{row_lines, factor_of, OneAnswer}
 use Rattle.planfile.proofs.FileOrder.{rows_are}
@@ -113,7 +113,7 @@ behind_checks b out r s once (inr x) (inr y) = once x.1 y.1
 -- a file gives one thing
 pub same_answer : (text : List ℕ) (room : ℕ) (r s : Result (List Claim) Blame) → FileRead text room r → FileRead text room s → r ≡ s
 same_answer text room r s =
-    let clock = first_blame (clock_checks (clock_fields text)) in
+    let clock = first_blame (clock_checks (first_fields text)) in
     behind_checks (first_blame (file_checks text room)) _ r s (behind_checks clock (Err (at_line 1 clock)) r s (rows_once (factor_of text) 2 [] (row_lines text) tt r s))
 
 -- so what load answers is all that the file gives

@@ -11,7 +11,7 @@ use Rattle.planfile.specs.declared.fault.Blame.{Blame}
 use Rattle.planfile.specs.Fault.{nothing, by, first_blame, blame}
 use Rattle.planfile.specs.Text.{newline, lines, fields, ended}
 use Rattle.planfile.specs.Checks.{Entry, clock_checks, clock_of, line_checks, claim_of}
-use Rattle.planfile.specs.Reading.{taking, clock_fields, file_checks, RowRefused, RowsRead, FileRead}
+use Rattle.planfile.specs.Reading.{taking, first_fields, file_checks, RowRefused, RowsRead, FileRead}
 use Rattle.planfile.specs.Loading.{Loaded}
 use Rattle.planfile.specs.Laws.{plan_text, claims_onto, NumbersPass, SoundPlan, RoundTrip}
 use Rattle.planfile.proofs.FileOrder.{not_both, same_ok}
@@ -84,13 +84,13 @@ module _ (clock : Factor) (es : List Entry) (sound : SoundPlan clock es) where
       ∙ cond-false (ltb 4096 (length whole) || not (ended whole)) (by 18) nothing
       (or_from (ltb 4096 (length whole)) (not (ended whole)) (le-ltb 4096 (length whole) few_bytes) (not_from_true (ended whole) (lines_ended (clock_line clock) (map row_line es))))
 
-  first_line : clock_fields whole ≡ fields (clock_line clock)
+  first_line : first_fields whole ≡ fields (clock_line clock)
   first_line = ap (λ (ls : List (List ℕ)). fields (get_or ls 0 [])) lines_of
 
-  clock_line_passes : first_blame (clock_checks (clock_fields whole)) ≡ nothing
+  clock_line_passes : first_blame (clock_checks (first_fields whole)) ≡ nothing
   clock_line_passes = ap (λ (fs : List (List ℕ)). first_blame (clock_checks fs)) first_line ∙ clock_passes clock sound.numerator sound.denominator sound.factor
 
-  factor : clock_of (clock_fields whole) ≡ clock
+  factor : clock_of (first_fields whole) ≡ clock
   factor = ap clock_of first_line ∙ clock_is clock sound.numerator sound.denominator
 
   -- the text of the plan gives its rows, and nothing else

@@ -7,7 +7,7 @@ use Rattle.std.specs.Cmp.Lexicographic.{pointwise}
 use Rattle.planfile.specs.Text.{word_of}
 
 -- the bytes w stand in f from index i on
-abbrev reads : List ℕ → ℕ → List ℕ → Bool
+abbrev pub reads : List ℕ → ℕ → List ℕ → Bool
 reads f i [] = true
 reads f i (b ∷ w) = eqb (get_or f i 0) b && reads f (suc i) w
 
@@ -17,11 +17,11 @@ reads_behind x f i [] = refl
 reads_behind x f i (b ∷ w) = rw (reads_behind x f (suc i) w)
 
 -- f has as many bytes as w, and each is that of w
-abbrev is : List ℕ → List ℕ → Bool
+abbrev pub is : List ℕ → List ℕ → Bool
 is f w = eqb (length f) (length w) && reads f 0 w
 
 -- the two tests agree
-same_is : (f w : List ℕ) → pointwise ◌==◌ f w ≡ is f w
+pub same_is : (f w : List ℕ) → pointwise ◌==◌ f w ≡ is f w
 same_is [] [] = refl
 same_is [] (b ∷ w) = grind (arith, nat_tests)
 same_is (x ∷ f) [] = grind (arith, nat_tests)

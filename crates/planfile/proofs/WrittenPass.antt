@@ -30,19 +30,19 @@ module _ (clock : Factor) (numerator : clock.numerator ≤ 4_294_967_295) (denom
   pub clock_parts_are : Parts (clock_parts clock)
   clock_parts_are = decimal_parts (clock.numerator ∷ clock.denominator ∷ []) (numerator, (denominator, tt))
 
-  clock_fields_are : fields (clock_line clock) ≡ clock_written clock
-  clock_fields_are = fields_are (codes "clock") (clock_parts clock) clock_word clock_parts_are
+  first_fields_are : fields (clock_line clock) ≡ clock_written clock
+  first_fields_are = fields_are (codes "clock") (clock_parts clock) clock_word clock_parts_are
 
   clock_says : clock_of (clock_written clock) ≡ clock
   clock_says = λ i. record { numerator = reads clock.numerator numerator i; denominator = reads clock.denominator denominator i }
 
   -- a clock line gives the factor that was written
   pub clock_is : clock_of (fields (clock_line clock)) ≡ clock
-  clock_is = ap clock_of clock_fields_are ∙ clock_says
+  clock_is = ap clock_of first_fields_are ∙ clock_says
 
   pub clock_passes : first (slowed_checks clock.numerator clock.denominator) ≡ 0 → first_blame (clock_checks (fields (clock_line clock))) ≡ nothing
   clock_passes z =
-      ap (λ (fs : List (List ℕ)). first_blame (clock_checks fs)) clock_fields_are
+      ap (λ (fs : List (List ℕ)). first_blame (clock_checks fs)) first_fields_are
       ∙ none_front (number_checks (clock_written clock) 2 2) (blaming_none (slowed_checks (value (decimal clock.numerator)) (value (decimal clock.denominator))))
       (numbers_pass (clock_written clock) 2 (clock.numerator ∷ clock.denominator ∷ []) (refl, (refl, tt)) (numerator, (denominator, tt)))
       ∙ ap (λ (c : Factor). first_blame (blaming_none (slowed_checks c.numerator c.denominator))) clock_says

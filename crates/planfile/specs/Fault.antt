@@ -9,7 +9,7 @@ use Rattle.planfile.specs.declared.fault.Fault.TheVariants.{ReportMemory, File, 
 use Rattle.planfile.specs.declared.fault.FieldFault.{FieldFault}
 use Rattle.planfile.specs.declared.fault.FieldFault.TheVariants.{NotNumber}
 use Rattle.planfile.specs.declared.fault.LineFault.{LineFault}
-use Rattle.planfile.specs.declared.fault.LineFault.TheVariants.{Word, Count, Number, Kind, Hold}
+use Rattle.planfile.specs.declared.fault.LineFault.TheVariants.{Word, Length, Count, Number, Kind, Hold}
 
 -- the number of what is wrong with a field
 abbrev pub field_number : FieldFault → ℕ
@@ -39,6 +39,7 @@ first_blame (check ∷ checks) = cond check.0 check.1 (first_blame checks)
 -- what a fault of a line says
 abbrev pub line_blame : LineFault → Blame
 line_blame (Word k) = by_field 17 k
+line_blame Length = by 18
 line_blame Count = by 15
 line_blame (Number k) = by_field 16 k
 line_blame (Kind e) = by (refusal_number e)

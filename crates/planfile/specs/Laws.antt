@@ -15,7 +15,7 @@ use Rattle.planfile.specs.declared.fault.Blame.{Blame}
 use Rattle.planfile.specs.Fault.{nothing, at_line, first_blame, blame}
 use Rattle.planfile.specs.Text.{tab, newline, lines, fields}
 use Rattle.planfile.specs.Checks.{Jobs, Entry, clock_checks, clock_of, kind_checks, claim_of}
-use Rattle.planfile.specs.Reading.{taking, claim_in, clock_fields, file_checks, RowTaken, RowRefused, FileRead}
+use Rattle.planfile.specs.Reading.{taking, claim_in, first_fields, file_checks, RowTaken, RowRefused, FileRead}
 use Rattle.planfile.specs.Report.{number_fields, report, WrittenAt}
 
 -- the row lines of a file: all lines but the first
@@ -24,7 +24,7 @@ row_lines text = drop 1 (lines text)
 
 -- the factor of a file
 abbrev pub factor_of : List ℕ → Factor
-factor_of text = clock_of (clock_fields text)
+factor_of text = clock_of (first_fields text)
 
 -- the rows of these lines, before others; the last is first
 abbrev pub rows_onto : Factor → List Claim → List (List ℕ) → List Claim
@@ -43,7 +43,7 @@ LineTaken text i = RowTaken (factor_of text) (rows_before text i) (fields (slice
 pub record RowFault (text : List ℕ) (b : Blame) : Type 0 where
   pub index : ℕ
   pub within : index < length (row_lines text)
-  pub clock : first_blame (clock_checks (clock_fields text)) ≡ nothing
+  pub clock : first_blame (clock_checks (first_fields text)) ≡ nothing
   pub before : (j : ℕ) → j < index → LineTaken text j
   pub said : Blame
   pub refused : RowRefused (factor_of text) (rows_before text index) (fields (slice_index_or (row_lines text) index [])) said
@@ -54,7 +54,7 @@ abbrev pub FirstFault : List ℕ → ℕ → Blame → Type 0
 FirstFault text room b =
     ((first_blame (file_checks text room) ≡ b) × (b.number ≢ 0))
     ⊎ ((first_blame (file_checks text room) ≡ nothing)
-    × ((((first_blame (clock_checks (clock_fields text))).number ≢ 0) × (b ≡ at_line 1 (first_blame (clock_checks (clock_fields text)))))
+    × ((((first_blame (clock_checks (first_fields text))).number ≢ 0) × (b ≡ at_line 1 (first_blame (clock_checks (first_fields text)))))
     ⊎ RowFault text b))
 
 -- every row line is taken

@@ -3,6 +3,7 @@ pub mod Text
 pub mod Fault
 pub mod Checks
 pub mod Reading
+pub mod Requests
 pub mod Report
 pub mod Cut
 pub mod Steps

@@ -52,14 +52,14 @@ RowsRead clock n rows (line ∷ rest) r =
     ⊎ (RowTaken clock rows (fields line) × RowsRead clock (n + 1) (claim_in clock (fields line) ∷ rows) rest r)
 
 -- the fields of the first line
-abbrev pub clock_fields : List ℕ → List (List ℕ)
-clock_fields text = fields (slice_index_or (lines text) 0 [])
+abbrev pub first_fields : List ℕ → List (List ℕ)
+first_fields text = fields (slice_index_or (lines text) 0 [])
 
 -- What lines give: the first is the clock line, and the others are row lines.
 abbrev pub LinesRead : List ℕ → Result (List Claim) Blame → Type 0
 LinesRead text r =
-    (((first_blame (clock_checks (clock_fields text))).number ≢ 0) × (r ≡ Err (at_line 1 (first_blame (clock_checks (clock_fields text))))))
-    ⊎ ((first_blame (clock_checks (clock_fields text)) ≡ nothing) × RowsRead (clock_of (clock_fields text)) 2 [] (drop 1 (lines text)) r)
+    (((first_blame (clock_checks (first_fields text))).number ≢ 0) × (r ≡ Err (at_line 1 (first_blame (clock_checks (first_fields text))))))
+    ⊎ ((first_blame (clock_checks (first_fields text)) ≡ nothing) × RowsRead (clock_of (first_fields text)) 2 [] (drop 1 (lines text)) r)
 
 -- When a file is refused before its lines are read, in this order: the report has fewer than 512 bytes; the file has more than 4,096, or is not
 -- ended by a newline.

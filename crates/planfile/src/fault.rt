@@ -28,6 +28,8 @@ impl FieldFault {
 pub enum LineFault {
     // the field is not a word that is due there
     Word(u32),
+    // it is a line of a log that is too long, or that has no newline
+    Length,
     // there are too few fields, or too many
     Count,
     // the field is not a number
@@ -103,6 +105,7 @@ impl LineFault {
     {
         match self {
             LineFault::Word(field) => Blame { field, ..by(17) },
+            LineFault::Length => by(18),
             LineFault::Count => by(15),
             LineFault::Number(field) => Blame { field, ..by(16) },
             LineFault::Kind(refusal) => by(refusal.number()),

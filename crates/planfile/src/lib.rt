@@ -8,6 +8,7 @@ mod fault;
 mod loading;
 mod number;
 mod reader;
+mod request;
 mod row;
 mod word;
 mod writing;
@@ -15,10 +16,15 @@ mod writing;
 pub use fault::{Blame, Fault, FieldFault, LineFault};
 pub use loading::{answer, load};
 pub use number::read_number;
+pub use request::{Opening, Request, read_clock_line, read_opening, read_request};
+pub use row::RowKind;
 pub use writing::write_refusal;
 
 // The most bytes that a plan file has.
 pub const LONGEST_FILE: usize = 4096;
+
+/// The most bytes that a line of a log has, with its newline.
+pub const LONGEST_LINE: usize = 4096;
 
 // The bytes of memory that a report is lent. Every report fits.
 pub const REPORT_MEMORY: usize = 512;

@@ -19,11 +19,11 @@ use runs::Register;
 // The jobs of a row.
 type Jobs = Either<Every, Heavy>;
 
-// The kind of a row: its jobs, delayed, and slowed by the clock.
-pub(crate) type RowKind = Slowed<Delayed<Jobs>>;
+/// The kind of a row: its jobs, delayed, and slowed by the clock.
+pub type RowKind = Slowed<Delayed<Jobs>>;
 
 // The number in the field of this index, from 1, or the fault that names the field.
-fn number_at(line: &Line, index: usize) -> Result<u32, LineFault>
+pub(crate) fn number_at(line: &Line, index: usize) -> Result<u32, LineFault>
     requires { Keeps line.now index 1 }
     ensures { Reads (number_checks line.now index 1) (number_in line.now index) result }
 {

@@ -1,6 +1,7 @@
-// The words of a plan file.
+// The words of plan files and of logs.
 ghost use Rattle.std.specs.Prelude.{◌≡◌};
 ghost use Rattle.planfile.specs.Text.{word_of};
+ghost use Rattle.planfile.specs.Requests.{verb_of};
 
 // What a field can say that is no number. `Other` is no `None`: the matches on words take it as one word more.
 #[derive(Clone, Copy)]
@@ -23,5 +24,35 @@ pub(crate) fn read_word(field: &[u8]) -> Word
         b"every" => Word::Every,
         b"heavy" => Word::Heavy,
         _ => Word::Other,
+    }
+}
+
+// What the first field of a line of a log can say.
+#[derive(Clone, Copy)]
+pub(crate) enum Verb {
+    Table,
+    Hold,
+    Keep,
+    Release,
+    Withdraw,
+    Bound,
+    Rows,
+    Other,
+}
+
+// Which verb a field is.
+#[tactic(auto, using(crate::proofs::Verbs::verb_is, std::proofs::lemmas::Bool::Decides::nat_tests))]
+pub(crate) fn read_verb(field: &[u8]) -> Verb
+    ensures { result ≡ verb_of field.now }
+{
+    match field {
+        b"table" => Verb::Table,
+        b"hold" => Verb::Hold,
+        b"keep" => Verb::Keep,
+        b"release" => Verb::Release,
+        b"withdraw" => Verb::Withdraw,
+        b"bound" => Verb::Bound,
+        b"rows" => Verb::Rows,
+        _ => Verb::Other,
     }
 }

@@ -1,0 +1,151 @@
+// The lines of a log of calls: from their bytes to what each asks.
+ghost use Rattle.std.specs.Prelude.{◌≡◌, ◌++◌};
+ghost use Rattle.planfile.specs.Checks.{clock_of, number_checks, number_in, row_checks, Reads};
+ghost use Rattle.planfile.specs.Cut.{Keeps};
+ghost use Rattle.planfile.specs.Reading.{first_fields};
+ghost use Rattle.planfile.specs.Requests.{clock_line_checks, count_checks, end_checks, limit_checks, opening_checks, opening_of, RequestRead, table_checks, task_in};
+
+use super::reader::{Line, Reader};
+use super::row::{RowKind, number_at, read_clock, read_row};
+use super::word::{Verb, read_verb};
+use super::{LONGEST_LINE, LineFault};
+use analysis::{MOST_ROWS, Task};
+use demand::{Factor, Slowed};
+use runs::{Call, HoldId};
+
+/// The table that a table line asks for.
+#[derive(Clone, Copy, PartialEq, Eq, Debug)]
+pub struct Opening {
+    /// The table's number.
+    pub number: u8,
+    /// How many places it is to have, 12 at most.
+    pub places: usize,
+}
+
+/// What a line of an evening asks.
+#[derive(Drop)]
+pub enum Request {
+    /// The evening is over, and another begins with this table.
+    Table(Opening),
+    /// A call on the table.
+    Call(Call<RowKind>),
+    /// What stands in the table.
+    Rows,
+}
+
+// Checks that a line has its newline and is not too long.
+fn check_end(text: &[u8]) -> Result<(), LineFault>
+    ensures { Reads (end_checks text.now) tt result }
+{
+    if LONGEST_LINE < text.len() || !text.ends_with(b"\n") {
+        return Err(LineFault::Length);
+    }
+    Ok(())
+}
+
+// The fields of a line that has its newline.
+fn cut(text: &[u8]) -> Result<Line<'_>, LineFault>
+    ensures { Reads (end_checks text.now) (first_fields text.now) result }
+{
+    check_end(text)?;
+    Ok(Reader::new(text).next().unwrap())
+}
+
+// Checks how many fields there are.
+fn check_count(line: &Line, due: usize) -> Result<(), LineFault>
+    ensures { Reads (count_checks line.now due) tt result }
+{
+    if line.count() != due {
+        return Err(LineFault::Count);
+    }
+    Ok(())
+}
+
+// The number in the field of this index, or the fault that names the field. A number above the limit is refused as one that is
+// none.
+fn number_up_to(line: &Line, index: usize, limit: u32) -> Result<u32, LineFault>
+    requires { Keeps line.now index 1 }
+    ensures { Reads (limit_checks line.now index limit) (number_in line.now index) result }
+{
+    let number = number_at(line, index)?;
+    if limit < number {
+        return Err(LineFault::Number(index as u32));
+    }
+    Ok(number)
+}
+
+// The one number behind the first word.
+fn read_number_behind(line: &Line) -> Result<u32, LineFault>
+    ensures { Reads (count_checks line.now 2 ++ number_checks line.now 2 1) (number_in line.now 2) result }
+{
+    check_count(line, 2)?;
+    number_at(line, 2)
+}
+
+// The table of a table line, by the numbers behind its first word.
+fn read_table(line: &Line) -> Result<Opening, LineFault>
+    ensures { Reads (table_checks line.now) (opening_of line.now) result }
+{
+    check_count(line, 3)?;
+    let number = number_up_to(line, 2, u32::from(u8::MAX))? as u8;
+    let places = number_up_to(line, 3, MOST_ROWS as u32)? as usize;
+    Ok(Opening { number, places })
+}
+
+// The row of a hold line.
+fn read_task(line: &Line, clock: Factor) -> Result<Task<RowKind>, LineFault>
+    ensures { Reads (row_checks line.now) (task_in clock line.now) result }
+{
+    let Task { row, kind } = read_row(line)?;
+    let kind = Slowed {
+        kind,
+        factor: clock,
+    };
+    Ok(Task { row, kind })
+}
+
+/// Reads a line that has to be a table line, with its newline. The codes of a refusal are 15 to 18.
+pub fn read_opening(text: &[u8]) -> Result<Opening, LineFault>
+    ensures { Reads (opening_checks text.now) (opening_of (first_fields text.now)) result }
+{
+    let line = cut(text)?;
+    let Verb::Table = read_verb(line.first()) else {
+        return Err(LineFault::Word(1));
+    };
+    read_table(&line)
+}
+
+/// Reads a line that has to be a clock line, with its newline. The codes of a refusal are 4 and 15 to 18.
+pub fn read_clock_line(text: &[u8]) -> Result<Factor, LineFault>
+    ensures { Reads (clock_line_checks text.now) (clock_of (first_fields text.now)) result }
+{
+    read_clock(&cut(text)?)
+}
+
+/// Reads a line of an evening, with its newline: what it asks of the table of this number, whose clock has this factor. The
+/// codes of a refusal are 1 to 3 and 15 to 18.
+pub fn read_request(text: &[u8], clock: Factor, table: u8) -> Result<Request, LineFault>
+    ensures { RequestRead clock table text.now result }
+{
+    let line = cut(text)?;
+    let call = match read_verb(line.first()) {
+        Verb::Table => return Ok(Request::Table(read_table(&line)?)),
+        Verb::Rows => {
+            check_count(&line, 1)?;
+            return Ok(Request::Rows);
+        }
+        Verb::Hold => Call::Hold(read_task(&line, clock)?),
+        Verb::Keep => Call::Keep(HoldId {
+            table,
+            row: read_number_behind(&line)?,
+        }),
+        Verb::Release => Call::Release(HoldId {
+            table,
+            row: read_number_behind(&line)?,
+        }),
+        Verb::Withdraw => Call::Withdraw(read_number_behind(&line)?),
+        Verb::Bound => Call::Bound(read_number_behind(&line)?),
+        Verb::Other => return Err(LineFault::Word(1)),
+    };
+    Ok(Request::Call(call))
+}
