@@ -25,17 +25,8 @@ fn give_up(row: u32) -> Call<Every> {
     Call::Release(HoldId { table: FIRST, row })
 }
 
-// The row that a call is about.
-fn row_of(call: &Call<Every>) -> u32 {
-    match call {
-        Call::Hold(task) => task.row.number,
-        Call::Keep(id) | Call::Release(id) => id.row,
-        Call::Withdraw(number) | Call::Bound(number) => *number,
-    }
-}
-
 fn rows_of(heap: Global, calls: &[Call<Every>]) -> Result<Vec<u32>, AllocError> {
-    calls.iter().map(row_of).collect(heap)
+    calls.iter().map(|call| call.row()).collect(heap)
 }
 
 // Runs a list of calls, and tells what each was answered.

@@ -1,20 +1,14 @@
 -- What loading a file answers, by what its steps said. Assumes nothing.
-use Rattle.std.proofs.Common.{◌≡◌, ℕ, ◌≢◌, List, [], ◌∷◌, length, Ok, Err, sym, refl, ap, ◌∙◌, subst, inl, inr, zero-add, arith}
+use Rattle.std.proofs.Common.{◌≡◌, ℕ, ◌≢◌, List, length, Ok, Err, sym, refl, ap, ◌∙◌, subst, inl, inr, zero-add}
 use Rattle.analysis.specs.declared.Answer.{Answer}
 use Rattle.analysis.specs.declared.answers.Answers.{Answers}
-use Rattle.analysis.specs.Judge.{Answered, InTime, answers_of}
-use Rattle.analysis.specs.Ranks.{Claim, Reordered, ranked, loads}
-use Rattle.demand.specs.declared.jitter.Delayed.{Delayed}
-use Rattle.demand.specs.declared.speed.Slowed.{Slowed}
-use Rattle.table.specs.declared.Table.{Table}
-use Rattle.table.specs.Agreement.{AgreesWith, LawfulRows}
-use Rattle.table.specs.History.{rows_at}
-use Rattle.table.proofs.Shared.{length_reordered}
+use Rattle.analysis.specs.Judge.{Answered, answers_of}
+use Rattle.analysis.specs.Ranks.{Claim, ranked, loads}
+use Rattle.table.specs.Agreement.{LawfulRows}
 use Rattle.planfile.specs.declared.fault.Blame.{Blame}
 use Rattle.planfile.specs.declared.fault.Fault.{Fault}
 use Rattle.planfile.specs.Fault.{nothing, first_blame, blame}
-use Rattle.planfile.specs.Checks.{Jobs, row_demand}
-use Rattle.planfile.specs.Reading.{taking, file_checks, LinesRead, RowsKept}
+use Rattle.planfile.specs.Reading.{file_checks, LinesRead}
 use Rattle.planfile.specs.Loading.{Loaded}
 use Rattle.planfile.specs.Report.{report, Wrote}
 use Rattle.planfile.proofs.Blames.{blame_numbered}
@@ -27,15 +21,6 @@ by_file text before f e = (inl (subst (λ (b : Blame). b.number ≢ 0) (sym e) (
 -- a line is refused
 pub by_lines : (text before : List ℕ) (f : Fault) → first_blame (file_checks text (length before)) ≡ nothing → LinesRead text (Err (blame f)) → Loaded text before (Err f) before
 by_lines text before f pass read = (inr (pass, read), refl)
-
--- where no row stands in a table, its answers are those of no rows
-pub none_yet : (t : Table (Slowed (Delayed Jobs))) (all : Answers) → AgreesWith row_demand (taking []) t → InTime (rows_at row_demand t) (answers_of all) → RowsKept [] t all
-none_yet t all agrees given =
-    record { agrees = agrees; answered = subst (λ (cs : List Claim). Answered (loads (ranked cs)) (answers_of all)) (no_rows (rows_at row_demand t) agrees.rows_are) given.answered }
-  where
-    no_rows : (cs : List Claim) → Reordered cs [] → cs ≡ []
-    no_rows [] r = refl
-    no_rows (c ∷ cs) r = absurd (omega (arith, length_reordered r))
 
 -- the answers that are shown are those of the rows
 pub listed : (rows : List Claim) (all : Answers) (shown : List Answer) → Answered (loads (ranked rows)) (answers_of all) → shown ≡ answers_of all → Answered (loads (ranked rows)) shown

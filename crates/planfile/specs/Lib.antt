@@ -4,6 +4,7 @@ pub mod Fault
 pub mod Checks
 pub mod Reading
 pub mod Requests
+pub mod Responses
 pub mod Report
 pub mod Cut
 pub mod Steps

@@ -89,7 +89,7 @@ fn by(number: u32) -> Blame
 }
 
 // The row that would be late, and 0 where lateness is not why a row is not taken.
-fn late_row(refusal: HoldRefusal) -> u32
+pub(crate) fn late_row(refusal: HoldRefusal) -> u32
     ensures { result ≡ hold_late refusal }
 {
     match refusal {

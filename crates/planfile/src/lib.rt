@@ -9,6 +9,7 @@ mod loading;
 mod number;
 mod reader;
 mod request;
+mod response;
 mod row;
 mod word;
 mod writing;
@@ -17,6 +18,7 @@ pub use fault::{Blame, Fault, FieldFault, LineFault};
 pub use loading::{answer, load};
 pub use number::read_number;
 pub use request::{Opening, Request, read_clock_line, read_opening, read_request};
+pub use response::Response;
 pub use row::RowKind;
 pub use writing::write_refusal;
 

@@ -20,6 +20,14 @@ use Rattle.runs.specs.declared.call.Way.TheVariants.{KeepRow, GiveUp}
 use Rattle.runs.specs.declared.call.Reply.{Reply}
 use Rattle.runs.specs.declared.call.Reply.TheVariants.{Hold, Keep, Release, Withdraw, Bound}
 
+-- the number of the row that a call is about
+abbrev pub call_row : {K : Type 0} → Call K → ℕ
+call_row (HoldCall task) = task.row.number
+call_row (KeepCall id) = id.row
+call_row (ReleaseCall id) = id.row
+call_row (WithdrawCall n) = n
+call_row (BoundCall n) = n
+
 -- the number of a refusal of keep or release
 abbrev pub not_held_number : NotHeld → ℕ
 not_held_number e = 12

@@ -1,6 +1,6 @@
 // Calls on a table and what they answer, as data.
 ghost use Rattle.std.specs.Prelude.{◌≡◌};
-ghost use Rattle.runs.specs.Calls.{not_held_number, reply_number};
+ghost use Rattle.runs.specs.Calls.{call_row, not_held_number, reply_number};
 
 use analysis::Task;
 use table::{BoundRefusal, HoldRefusal, WithdrawRefusal};
@@ -47,6 +47,19 @@ pub enum Reply {
     Withdraw(Result<(), WithdrawRefusal>),
     /// The bound in ticks, and the vector.
     Bound(Result<(u32, u32), BoundRefusal>),
+}
+
+impl<K> Call<K> {
+    /// The number of the row that it is about.
+    pub fn row(&self) -> u32
+        ensures { result ≡ call_row self.now }
+    {
+        match self {
+            Call::Hold(task) => task.row.number,
+            Call::Keep(id) | Call::Release(id) => id.row,
+            Call::Withdraw(number) | Call::Bound(number) => *number,
+        }
+    }
 }
 
 impl NotHeld {

@@ -1,8 +1,10 @@
 // A table with the holds that it gave, and lists of calls that are run on it.
 ghost use Rattle.std.specs.Prelude.{◌≡◌, ◌≢◌, ℕ, List, ◌+◌, ◌<◌, ◌≤◌, [], ◌++◌, IfOk, OnErr, OnOk, drop, length, min, map, position, true, false, vec_items, ◌↔◌};
 ghost use Rattle.std.specs.Vec.{vec_len, vec_capacity};
-ghost use Rattle.analysis.specs.Judge.{InTime, answers_of};
-ghost use Rattle.table.specs.Account.{fresh};
+ghost use Rattle.analysis.specs.Judge.{Answered, InTime, answers_of};
+ghost use Rattle.analysis.specs.Ranks.{loads, ranked};
+ghost use Rattle.table.specs.Account.{Account, fresh};
+ghost use Rattle.table.specs.Agreement.{AgreesWith};
 ghost use Rattle.table.specs.History.{Continues, HasHistory, rows_at};
 ghost use Rattle.table.specs.Memory.{Emptied};
 ghost use Rattle.table.specs.Places.{has_held};
@@ -102,7 +104,9 @@ impl<'a, K: Kind + Drop> Desk<'a, K> {
 
     /// Number, bound, vector and blocking of all rows, highest first.
     pub fn answers(&self) -> Answers
-        ensures { InTime (rows_at K.demand (table_of self.now)) (answers_of result) }
+        ensures in_time { InTime (rows_at K.demand (table_of self.now)) (answers_of result) }
+        ensures account { (a : Account) → AgreesWith K.demand a (table_of self.now)
+            → Answered (loads (ranked a.rows)) (answers_of result) }
     {
         self.register.answers()
     }

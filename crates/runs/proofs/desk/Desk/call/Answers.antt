@@ -1,6 +1,6 @@
-use Rattle.std.proofs.Common.{◌≡◌, ◌∷◌, List, sym, ap, subst}
+use Rattle.std.proofs.Common.{◌∷◌, List, sym, ap, subst}
 use Rattle.std.proofs.Math.Logic.{∥∥₁_map}
-use Rattle.table.specs.History.{HasHistory, fresh_of}
+use Rattle.table.specs.History.{HasHistory}
 use Rattle.table.specs.Runs.{Event}
 use Rattle.table.proofs.Histories.{every_history}
 use Rattle.runs.specs.Calls.{IsEvent}

@@ -19,7 +19,7 @@ returns-clause-promise g c =
       events = done.0;
       follow = done.1;
       history = done.2;
-      answers = c.answers-answers.ensures;
-      promise = ∥∥₁_map done.2 (λ h. answered_promise demand done.0 (table_of c.make_all.new.self) h (answers_of c.answers-answers.result) c.answers-answers.ensures.answered);
+      answers = c.answers-answers.ensures.in_time;
+      promise = ∥∥₁_map done.2 (λ h. answered_promise demand done.0 (table_of c.make_all.new.self) h (answers_of c.answers-answers.result) c.answers-answers.ensures.in_time.answered);
     } in
     record { after = after; ever = ∥∥₁_map c.args.self.now.register.history (λ k. (k.0, ∣ k.1 ∣₁, after k.0 ∣ k.1 ∣₁)) }

@@ -1,0 +1,61 @@
+-- What is written for a line of a log. Assumes nothing.
+-- How to read it: a response is a value of the code; `response_line` is its text, with the newline. `response_of` is what a reply to a call comes
+-- to, where the call is about row n and stands in line k of a log.
+use Rattle.std.specs.Prelude.{ℕ, Bool, true, false, List, [], ◌∷◌, ◌++◌, Ok, Err, codes}
+use Rattle.analysis.specs.declared.Answer.{Answer}
+use Rattle.table.specs.Account.{hold_late}
+use Rattle.runs.specs.declared.call.Reply.{Reply}
+use Rattle.runs.specs.declared.call.Reply.TheVariants.{Hold, Keep, Release, Withdraw, Bound}
+use Rattle.runs.specs.Calls.{reply_number}
+use Rattle.planfile.specs.declared.fault.Blame.{Blame}
+use Rattle.planfile.specs.declared.response.Response.{Response}
+use Rattle.planfile.specs.declared.response.Response.TheVariants.{Held, Kept, Released, Withdrawn, Bounded, Row, Refused}
+use Rattle.planfile.specs.Fault.{at_line}
+use Rattle.planfile.specs.Report.{line_of, number_fields, refusal_line}
+use Rattle.planfile.specs.Text.{newline, tab}
+
+-- whether a row is held or kept, in a word
+abbrev pub standing_word : Bool → List ℕ
+standing_word true = codes "held"
+standing_word false = codes "kept"
+
+-- the line of a row in a list of all: number, bound, vector, blocking, and how it stands
+abbrev pub row_response : Answer → Bool → List ℕ
+row_response a held =
+    codes "row" ++ (number_fields (a.number ∷ a.bound ∷ a.vector ∷ a.blocking ∷ []) ++ (tab ∷ standing_word held ++ newline ∷ []))
+
+-- the text of a response
+abbrev pub response_line : Response → List ℕ
+response_line (Held n) = line_of (codes "held") (n ∷ [])
+response_line (Kept n) = line_of (codes "kept") (n ∷ [])
+response_line (Released n) = line_of (codes "released") (n ∷ [])
+response_line (Withdrawn n) = line_of (codes "withdrawn") (n ∷ [])
+response_line (Bounded n bound vector) = line_of (codes "bound") (n ∷ bound ∷ vector ∷ [])
+response_line (Row a held) = row_response a held
+response_line (Refused k b) = refusal_line (at_line k b)
+
+-- the late row that a reply names, else 0
+abbrev pub reply_late : Reply → ℕ
+reply_late (Hold (Ok u)) = 0
+reply_late (Hold (Err e)) = hold_late e
+reply_late (Keep r) = 0
+reply_late (Release r) = 0
+reply_late (Withdraw r) = 0
+reply_late (Bound r) = 0
+
+-- what a reply blames that is a refusal: no field
+abbrev pub reply_blame : Reply → Blame
+reply_blame r = record { number = reply_number r; line = 0; field = 0; late = reply_late r }
+
+-- what a reply comes to
+abbrev pub response_of : ℕ → ℕ → Reply → Response
+response_of k n (Hold (Ok u)) = Held n
+response_of k n (Hold (Err e)) = Refused k (reply_blame (Hold (Err e)))
+response_of k n (Keep (Ok u)) = Kept n
+response_of k n (Keep (Err e)) = Refused k (reply_blame (Keep (Err e)))
+response_of k n (Release (Ok u)) = Released n
+response_of k n (Release (Err e)) = Refused k (reply_blame (Release (Err e)))
+response_of k n (Withdraw (Ok u)) = Withdrawn n
+response_of k n (Withdraw (Err e)) = Refused k (reply_blame (Withdraw (Err e)))
+response_of k n (Bound (Ok p)) = Bounded n p.0 p.1
+response_of k n (Bound (Err e)) = Refused k (reply_blame (Bound (Err e)))
