@@ -1,0 +1,4 @@
+//! Logs of calls on tables, answered line by line while they are read.
+#![tactic(auto)]
+
+mod log;
