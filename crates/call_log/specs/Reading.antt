@@ -1,11 +1,12 @@
 -- A log while it is read, and what its functions do to it. Assumes nothing.
 -- How to read it: l is a log before a call and m the log after it. Which bytes a log still has is known where its reader says it.
-use Rattle.std.specs.Prelude.{◌≡◌, ◌≢◌, ℕ, Bool, true, false, ◌&&◌, ◌⊎◌, List, [], ◌∷◌, ◌++◌, take, Option, Some, None, if◌then◌else◌}
+use Rattle.std.specs.Prelude.{◌≡◌, ◌≢◌, ℕ, ◌+◌, Bool, true, false, ◌&&◌, ◌⊎◌, List, [], ◌∷◌, ◌++◌, take, Option, Some, None, if◌then◌else◌}
 use Rattle.std.specs.declared.io.traits.Read.{Ghosts}
 use Rattle.std.specs.Io.Iter.{bytes_remaining}
+use Rattle.std.specs.Io.KnownBytes.{Appends}
 use Rattle.call_log.specs.declared.log.Log.{Log}
 use Rattle.call_log.specs.Counting.{to_come}
-use Rattle.call_log.specs.Logs.{Stage, LogSays}
+use Rattle.call_log.specs.Logs.{Stage, Turn, LineSays, LogSays}
 use Rattle.planfile.specs.Text.{newline, parted_by}
 
 -- a text without a newline
@@ -52,3 +53,20 @@ module _ {R : Type 0} {reads : Ghosts R} where
   -- the lines read so far are as many, and whether they were well formed is known as before
   abbrev pub SameSoFar : Log R reads → Log R reads → Type 0
   SameSoFar l m = (m.number ≡ l.number) × (m.well_formed ≡ l.well_formed)
+
+  -- What was said between two moments: it follows from what is said of the bytes that are left then.
+  abbrev pub Tells : Log R reads → Log R reads → Option (List ℕ) → Option (List ℕ) → Stage → Stage → Type 0
+  Tells l m before after s t =
+      (xs : List ℕ) → left_of l ≡ Some xs
+      → (ys : List ℕ) × (left_of m ≡ Some ys) × (said : List ℕ) × (ok : Bool) × Appends before after said
+      × (m.well_formed ≡ (l.well_formed && ok)) × Leads s (l.number + 1) xs said ok t (m.number + 1) ys
+
+  -- The line at hand was answered: this came of it, the same bytes are left, and as many lines were read.
+  pub record LineTold (l m : Log R reads) (before after : Option (List ℕ)) (s t : Stage) : Type 0 where
+    pub turn : Turn
+    pub says : LineSays s l.number l.line.items turn
+    pub told : Appends before after turn.said
+    pub well_formed : m.well_formed ≡ (l.well_formed && turn.well_formed)
+    pub next : turn.next ≡ t
+    pub number : m.number ≡ l.number
+    pub left : left_of m ≡ left_of l
