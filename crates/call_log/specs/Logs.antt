@@ -61,7 +61,7 @@ RequestSays clock a k (Table o) turn = turn ≡ says [] (clock_due o)
 -- a call is answered as the account answers it
 RequestSays clock a k (Call c) turn =
     (r : Reply) × (e : Event) × IsEvent row_demand a.number c r e × ∥ Step a e (after a e) ∥₁
-    × (turn ≡ record { said = response_line (response_of k (call_row c) r); well_formed = true; next = evening clock (after a e) })
+    × (turn ≡ says (response_line (response_of k (call_row c) r)) (evening clock (after a e)))
 -- all rows are told, highest first, with what is answered for them
 RequestSays clock a k Rows turn =
     ∥ ((all : List Answer) × Answered (loads (ranked a.rows)) all × (turn ≡ says (rows_text a all) (evening clock a))) ∥₁

@@ -6,7 +6,10 @@ use Rattle.std.specs.Io.Iter.{bytes_remaining}
 use Rattle.std.specs.Io.KnownBytes.{Appends}
 use Rattle.call_log.specs.declared.log.Log.{Log}
 use Rattle.call_log.specs.Counting.{to_come}
-use Rattle.call_log.specs.Logs.{Stage, Turn, LineSays, LogSays}
+use Rattle.call_log.specs.Logs.{Stage, clock_due, evening, over, Turn, LineSays, LogSays}
+use Rattle.demand.specs.declared.speed.Factor.{Factor}
+use Rattle.table.specs.Account.{Account, fresh}
+use Rattle.planfile.specs.declared.request.Opening.{Opening}
 use Rattle.planfile.specs.Text.{newline, parted_by}
 
 -- a text without a newline
@@ -54,6 +57,13 @@ module _ {R : Type 0} {reads : Ghosts R} where
   abbrev pub SameSoFar : Log R reads → Log R reads → Type 0
   SameSoFar l m = (m.number ≡ l.number) × (m.well_formed ≡ l.well_formed)
 
+  -- the same line is at hand, as many lines were read, and the same bytes are left
+  pub record SameLog (l m : Log R reads) : Type 0 where
+    pub line : m.line ≡ l.line
+    pub number : m.number ≡ l.number
+    pub left : left_of m ≡ left_of l
+    pub fewer : bytes_left_of m ≡ bytes_left_of l
+
   -- What was said between two moments: it follows from what is said of the bytes that are left then.
   abbrev pub Tells : Log R reads → Log R reads → Option (List ℕ) → Option (List ℕ) → Stage → Stage → Type 0
   Tells l m before after s t =
@@ -70,3 +80,23 @@ module _ {R : Type 0} {reads : Ghosts R} where
     pub next : turn.next ≡ t
     pub number : m.number ≡ l.number
     pub left : left_of m ≡ left_of l
+
+-- where a log stands when a table was asked for, or none and the rest is not looked at
+abbrev pub due_stage : Option Opening → Stage
+due_stage None = over
+due_stage (Some o) = clock_due o
+
+-- a table that is due counts as one
+abbrev pub due_count : Option Opening → ℕ
+due_count None = 0
+due_count (Some o) = 1
+
+-- where an evening stands after a line: it goes on, or another table was asked for
+abbrev pub stage_after : Factor → Account → Option Opening → Stage
+stage_after clock a None = evening clock a
+stage_after clock a (Some o) = clock_due o
+
+-- where a log stands behind the clock line of a table
+abbrev pub clock_stage : Opening → Option Factor → Stage
+clock_stage o None = over
+clock_stage o (Some clock) = evening clock (fresh o.number o.places)

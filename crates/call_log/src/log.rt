@@ -75,8 +75,9 @@ impl<R: Read + Drop> Log<R> {
     // Reads the next line, if there is one.
     pub(crate) fn read_line(&mut self) -> io::Result<bool>
         ensures line { IfOk result (λ more. LineRead self.old more self.new) }
-        ensures fewer { IfOk result (λ more. IsTrue more
-            → bytes_left_of self.new < bytes_left_of self.old) }
+        ensures fewer { IfOk result (λ more. MatchBool more
+            (bytes_left_of self.new < bytes_left_of self.old)
+            (bytes_left_of self.new ≤ bytes_left_of self.old)) }
         ensures number { IfOk result (λ more.
             MatchBool more (self.new.number ≡ self.old.number + 1) (self.new.number ≡ self.old.number)) }
         ensures well_formed { self.new.well_formed ≡ self.old.well_formed }

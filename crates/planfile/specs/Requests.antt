@@ -1,7 +1,7 @@
 -- The lines of a log: which checks each meets, and what it asks. Assumes nothing.
 -- How to read it: `text` is a line with its newline, fs are its fields, which count from 1. Checks are as in Checks.antt. For a table line see
 -- `opening_checks` and `opening_of`, for its clock line `clock_line_checks`, for any other line `request_checks` and `request_of`.
-use Rattle.std.specs.Prelude.{◌≡◌, ℕ, Bool, true, false, not, ◌&&◌, ◌||◌, List, [], ◌∷◌, ◌++◌, length, Some, None, Option, Ok, Err, Result, cond, codes, ◌==◌, nat_le, nat_lt}
+use Rattle.std.specs.Prelude.{◌≡◌, ℕ, Bool, true, false, not, ◌&&◌, ◌||◌, List, [], ◌∷◌, ◌++◌, length, Some, None, Option, Ok, Err, Result, cond, ◌≤◌, ⊤, codes, ◌==◌, nat_le, nat_lt}
 use Rattle.std.specs.Cmp.Lexicographic.{pointwise}
 use Rattle.analysis.specs.declared.Task.{Task}
 use Rattle.demand.specs.declared.jitter.Delayed.{Delayed}
@@ -107,6 +107,12 @@ asked_by clock table fs Withdraw = Some (CallAsked (WithdrawCall (number_in fs 2
 asked_by clock table fs Bound = Some (CallAsked (BoundCall (number_in fs 2)))
 asked_by clock table fs Rows = Some RowsAsked
 asked_by clock table fs Other = None
+
+-- a table that is asked for has twelve places at most
+abbrev pub FewPlaces : Request → Type 0
+FewPlaces (TableAsked o) = o.places ≤ 12
+FewPlaces (CallAsked c) = ⊤
+FewPlaces RowsAsked = ⊤
 
 -- what a line of an evening asks
 abbrev pub request_of : Factor → ℕ → List ℕ → Option Request

@@ -99,8 +99,8 @@ pub(crate) fn late_row(refusal: HoldRefusal) -> u32
 }
 
 impl LineFault {
-    // What it says before its line is known. A cast gives no number to a fault that has a value in it, so a match says it.
-    fn blame(self) -> Blame
+    /// What it says before its line is known. A cast gives no number to a fault that has a value in it, so a match says it.
+    pub fn blame(self) -> Blame
         ensures { result ≡ line_blame self }
     {
         match self {

@@ -1,9 +1,9 @@
 // The lines of a log of calls: from their bytes to what each asks.
-ghost use Rattle.std.specs.Prelude.{◌≡◌, ◌++◌};
+ghost use Rattle.std.specs.Prelude.{◌≡◌, ◌≤◌, ◌++◌, IfOk};
 ghost use Rattle.planfile.specs.Checks.{clock_of, number_checks, number_in, row_checks, Reads};
 ghost use Rattle.planfile.specs.Cut.{Keeps};
 ghost use Rattle.planfile.specs.Reading.{first_fields};
-ghost use Rattle.planfile.specs.Requests.{clock_line_checks, count_checks, end_checks, limit_checks, opening_checks, opening_of, RequestRead, table_checks, task_in};
+ghost use Rattle.planfile.specs.Requests.{clock_line_checks, count_checks, end_checks, FewPlaces, limit_checks, opening_checks, opening_of, RequestRead, table_checks, task_in};
 
 use super::reader::{Line, Reader};
 use super::row::{RowKind, number_at, read_clock, read_row};
@@ -65,7 +65,8 @@ fn check_count(line: &Line, due: usize) -> Result<(), LineFault>
 // none.
 fn number_up_to(line: &Line, index: usize, limit: u32) -> Result<u32, LineFault>
     requires { Keeps line.now index 1 }
-    ensures { Reads (limit_checks line.now index limit) (number_in line.now index) result }
+    ensures number { Reads (limit_checks line.now index limit) (number_in line.now index) result }
+    ensures within { IfOk result (λ n. n ≤ limit) }
 {
     let number = number_at(line, index)?;
     if limit < number {
@@ -84,7 +85,8 @@ fn read_number_behind(line: &Line) -> Result<u32, LineFault>
 
 // The table of a table line, by the numbers behind its first word.
 fn read_table(line: &Line) -> Result<Opening, LineFault>
-    ensures { Reads (table_checks line.now) (opening_of line.now) result }
+    ensures table { Reads (table_checks line.now) (opening_of line.now) result }
+    ensures few { IfOk result (λ table. table.places ≤ 12) }
 {
     check_count(line, 3)?;
     let number = number_up_to(line, 2, u32::from(u8::MAX))? as u8;
@@ -106,7 +108,8 @@ fn read_task(line: &Line, clock: Factor) -> Result<Task<RowKind>, LineFault>
 
 /// Reads a line that has to be a table line, with its newline. The codes of a refusal are 15 to 18.
 pub fn read_opening(text: &[u8]) -> Result<Opening, LineFault>
-    ensures { Reads (opening_checks text.now) (opening_of (first_fields text.now)) result }
+    ensures table { Reads (opening_checks text.now) (opening_of (first_fields text.now)) result }
+    ensures few { IfOk result (λ table. table.places ≤ 12) }
 {
     let line = cut(text)?;
     let Verb::Table = read_verb(line.first()) else {
@@ -125,7 +128,8 @@ pub fn read_clock_line(text: &[u8]) -> Result<Factor, LineFault>
 /// Reads a line of an evening, with its newline: what it asks of the table of this number, whose clock has this factor. The
 /// codes of a refusal are 1 to 3 and 15 to 18.
 pub fn read_request(text: &[u8], clock: Factor, table: u8) -> Result<Request, LineFault>
-    ensures { RequestRead clock table text.now result }
+    ensures request { RequestRead clock table text.now result }
+    ensures few { IfOk result FewPlaces }
 {
     let line = cut(text)?;
     let call = match read_verb(line.first()) {

@@ -24,17 +24,16 @@ loop-byte-preserved g c =
       short = omega (arith, ap length c.in_ok-keep.ensures, length-take 4097 (c.next_byte.new.self.line.items ++ c.in-Some.byte ∷ []));
       fewer = omega (arith, rw c.in-Some.is at c.in_ok-byte.ensures.fewer, inv.fewer);
       taken = λ xs known.
-      let before = inv.taken xs known in
-      let here = byte before.1 before.2 in
-      let items = ap (λ v. v.items) c.in_ok-byte.ensures.same.1 ∙ before.4 in
-      (
-        before.0 ++ c.in-Some.byte ∷ [],
-        here.0,
-        here.1,
-        before.3 ∙ ap (λ ys. before.0 ++ ys) here.2 ∙ sym (append_assoc before.0 (c.in-Some.byte ∷ []) here.0),
-        c.in_ok-keep.ensures ∙ ap (λ l. take 4097 (l ++ c.in-Some.byte ∷ [])) items ∙ kept_on 4097 before.0 c.in-Some.byte,
-        one_on before.0 c.in-Some.byte c.if-byte-eq10.false before.5,
-      );
+          let before = inv.taken xs known in
+          let here = byte before.1 before.2 in
+          let items = ap (λ v. v.items) c.in_ok-byte.ensures.same.1 ∙ before.4 in (
+            before.0 ++ c.in-Some.byte ∷ [],
+            here.0,
+            here.1,
+            before.3 ∙ ap (λ ys. before.0 ++ ys) here.2 ∙ sym (append_assoc before.0 (c.in-Some.byte ∷ []) here.0),
+            c.in_ok-keep.ensures ∙ ap (λ l. take 4097 (l ++ c.in-Some.byte ∷ [])) items ∙ kept_on 4097 before.0 c.in-Some.byte,
+            one_on before.0 c.in-Some.byte c.if-byte-eq10.false before.5,
+          );
     }
 
 pub returns-clause-line : goal.returns-clause-line

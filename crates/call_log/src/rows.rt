@@ -1,0 +1,58 @@
+// What is told of all rows of a table.
+ghost use Rattle.std.specs.Prelude.{◌≡◌, ℕ, ◌++◌, List, OnOk, string_bytes};
+ghost use Rattle.std.specs.Io.KnownBytes.{Appends};
+ghost use Rattle.analysis.specs.declared.Answer.{Answer as Row};
+ghost use Rattle.analysis.specs.Judge.{Answered};
+ghost use Rattle.analysis.specs.Ranks.{loads, ranked};
+ghost use Rattle.table.specs.Account.{Account, held};
+ghost use Rattle.table.specs.Agreement.{AgreesWith};
+ghost use Rattle.runs.specs.Desk.{table_of};
+ghost use Rattle.planfile.specs.Checks.{row_demand};
+ghost use Rattle.call_log.specs.Logs.{rows_text};
+
+use analysis::Answer;
+use planfile::{Response, RowKind};
+use runs::Desk;
+use std::alloc::{AllocError, Global};
+use std::io::{self, Write};
+use table::State;
+
+// Whether a row is held. A row that is not stands as kept.
+fn is_held(desk: &Desk<'_, RowKind>, number: u32) -> bool
+    ensures { (a : Account) → AgreesWith row_demand a (table_of desk.now)
+        → result ≡ held number a.holds }
+{
+    matches!(desk.table().state_of(number), State::Held(_))
+}
+
+// Appends the lines of these answers for rows of the table.
+fn push_rows(
+    desk: &Desk<'_, RowKind>,
+    answers: &[Answer],
+    text: &mut String,
+) -> Result<(), AllocError>
+    ensures { OnOk result ((a : Account) → AgreesWith row_demand a (table_of desk.now)
+        → string_bytes text.new ≡ string_bytes text.old ++ rows_text a answers.now) }
+{
+    for answer in answers {
+        let row = Response::Row(*answer, is_held(desk, answer.number));
+        write!(text, "{row}")?;
+    }
+    Ok(())
+}
+
+// Tells all rows, highest first.
+pub(crate) fn tell_rows<W: Write>(
+    heap: Global,
+    out: &mut W,
+    desk: &Desk<'_, RowKind>,
+) -> io::Result<()>
+    ensures { OnOk result ((said : List ℕ) × Appends (W.contents out.old) (W.contents out.new) said
+        × ((a : Account) → AgreesWith row_demand a (table_of desk.now)
+        → (all : List Row) × Answered (loads (ranked a.rows)) all × (said ≡ rows_text a all))) }
+{
+    let answers = desk.answers();
+    let mut text = String::new(heap);
+    push_rows(desk, answers.rows(), &mut text)?;
+    out.write_all(text.as_bytes())
+}
