@@ -1,5 +1,7 @@
 -- What comes of a call, and of the rows, by what the table of an evening has been through. Assumes nothing.
-use Rattle.std.proofs.Common.{◌≡◌, ℕ, List, [], ◌∷◌, sym, refl, ap, ◌∙◌, subst}
+use Rattle.std.proofs.Common.{◌≡◌, ℕ, ◌≤◌, min, true, false, List, [], ◌∷◌, length, take, Option, Some, None, sym, refl, ap, ◌∙◌, subst, arith}
+use Rattle.std.proofs.lemmas.List.{length-take}
+use Rattle.std.specs.Option.{is_some}
 use Rattle.std.proofs.Math.Logic.{∥∥₁_map}
 use Rattle.analysis.specs.declared.Answer.{Answer}
 use Rattle.analysis.specs.Judge.{Answered}
@@ -8,7 +10,7 @@ use Rattle.demand.specs.declared.jitter.Delayed.{Delayed}
 use Rattle.demand.specs.declared.speed.Factor.{Factor}
 use Rattle.demand.specs.declared.speed.Slowed.{Slowed}
 use Rattle.table.specs.declared.Table.{Table}
-use Rattle.table.specs.Account.{Account}
+use Rattle.table.specs.Account.{Account, fresh}
 use Rattle.table.specs.Agreement.{AgreesWith}
 use Rattle.table.specs.History.{HasHistory, account_of, fresh_of}
 use Rattle.table.specs.Runs.{Event, Step, after, after_all}
@@ -16,10 +18,12 @@ use Rattle.table.proofs.Promise.{same_number}
 use Rattle.runs.specs.declared.call.Call.{Call as TableCall}
 use Rattle.runs.specs.declared.call.Reply.{Reply}
 use Rattle.runs.specs.Calls.{IsEvent, call_row}
+use Rattle.planfile.specs.declared.request.Opening.{Opening}
 use Rattle.planfile.specs.declared.request.Request.TheVariants.{Call, Rows}
 use Rattle.planfile.specs.Checks.{Jobs, row_demand}
 use Rattle.planfile.specs.Responses.{response_line, response_of}
 use Rattle.call_log.specs.Logs.{evening, RequestSays, rows_text, says}
+use Rattle.call_log.specs.Reading.{due_count, due_stage, stage_after}
 
 -- the account of a table bears its number
 number_after : (start : Account) (es : List Event) → start.number ≡ (after_all start es).number
@@ -45,3 +49,25 @@ module _ (clock : Factor) (k : ℕ) (es : List Event) (t u : Table (Slowed (Dela
   pub rows_say : (said : List ℕ) → HasHistory row_demand es t → ((a : Account) → AgreesWith row_demand a t → (all : List Answer) × Answered (loads (ranked a.rows)) all × (said ≡ rows_text a all)) → RequestSays clock (account_of es t) k Rows (says said (evening clock (account_of es t)))
   rows_say said known told =
       ∥∥₁_map known (λ h. let all = told (account_of es t) h.agrees in (all.0, all.1, ap (λ s. says s (evening clock (account_of es t))) all.2))
+
+-- so many of twelve places are lent
+pub few_places : {A : Type 0} (n : ℕ) (xs : List A) → length xs ≡ 12 → n ≤ 12 → min (length (take n xs)) 12 ≡ n
+few_places n xs twelve few = omega (arith, length-take n xs, twelve, few)
+
+-- an evening begins with no call
+pub opened : (clock : Factor) (o : Opening) (t : Table (Slowed (Delayed Jobs))) (n : ℕ) → fresh_of t ≡ fresh o.number n → n ≡ o.places → evening clock (account_of [] t) ≡ evening clock (fresh o.number o.places)
+opened clock o t n made few = ap (evening clock) made ∙ ap (λ k. evening clock (fresh o.number k)) few
+
+module _ (clock : Factor) (a : Account) where
+  -- another table was asked for, or none
+  pub some_due : (o : Option Opening) → true ≡ is_some o → stage_after clock a o ≡ due_stage o
+  some_due None e = absurd (cc)
+  some_due (Some o) e = refl
+
+  pub none_due : (o : Option Opening) → false ≡ is_some o → stage_after clock a o ≡ evening clock a
+  none_due None e = refl
+  none_due (Some o) e = absurd (cc)
+
+pub one_due : (o : Option Opening) → due_count o ≤ 1
+one_due None = omega arith
+one_due (Some o) = omega arith

@@ -15,7 +15,7 @@ use Rattle.call_log.specs.Logs.{Stage, over, Turn, Checked, LineSays, LogSays, e
 use Rattle.call_log.specs.Reading.{Leads, LineRead, LineTold, SameLog, Tells, left_of}
 use Rattle.call_log.proofs.Lines.{end_leads, turn_leads}
 
-and_true : (b : Bool) → b ≡ (b && true)
+pub and_true : (b : Bool) → b ≡ (b && true)
 and_true true = refl
 and_true false = refl
 
@@ -99,7 +99,7 @@ module _ {R : Type 0} {reads : Ghosts R} where
       )
 
   -- the end of a log is told
-  pub tells_end : (l m : Log R reads) (A B : Option (List ℕ)) (s : Stage) (k : ℕ) → LineRead l false m → Appends A B (end_says s (l.number + 1) []).said → m.well_formed ≡ (l.well_formed && (end_says s (l.number + 1) []).well_formed) → Tells l m A B s over
-  tells_end l m A B s k read told well_formed xs known =
+  pub tells_end : (l m : Log R reads) (A B : Option (List ℕ)) (s : Stage) → LineRead l false m → Appends A B (end_says s (l.number + 1) []).said → m.well_formed ≡ (l.well_formed && (end_says s (l.number + 1) []).well_formed) → Tells l m A B s over
+  tells_end l m A B s read told well_formed xs known =
       let r = read xs known in
       ([], r.1, (end_says s (l.number + 1) []).said, (end_says s (l.number + 1) []).well_formed, told, well_formed, subst (Leads s (l.number + 1) xs _ _ over (m.number + 1)) r.0 (end_leads s (l.number + 1) (m.number + 1) xs r.0))
