@@ -1,5 +1,5 @@
 -- What comes of a line, by what reading it answers. Assumes nothing.
-use Rattle.std.proofs.Common.{◌≡◌, ℕ, List, [], Some, Ok, Err, Option, Result, ap, subst, inr}
+use Rattle.std.proofs.Common.{◌≡◌, ℕ, List, [], Ok, Err, Result, ap, subst, inr}
 use Rattle.demand.specs.declared.speed.Factor.{Factor}
 use Rattle.table.specs.Account.{Account, fresh}
 use Rattle.planfile.specs.declared.fault.LineFault.{LineFault}
@@ -8,7 +8,7 @@ use Rattle.planfile.specs.declared.request.Request.{Request}
 use Rattle.planfile.specs.Checks.{clock_of}
 use Rattle.planfile.specs.Fault.{nothing, first_blame, line_blame}
 use Rattle.planfile.specs.Reading.{first_fields}
-use Rattle.planfile.specs.Requests.{RequestRead, clock_line_checks, opening_checks, opening_of, request_checks, request_of}
+use Rattle.planfile.specs.Requests.{RequestRead, clock_line_checks, opening_checks, opening_of, request_checks}
 use Rattle.call_log.specs.Logs.{clock_due, evening, over, table_due, LineSays, RequestSays, Turn, refuses, says}
 use Rattle.call_log.proofs.Tells.{is_refused}
 

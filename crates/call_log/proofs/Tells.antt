@@ -1,5 +1,5 @@
 -- What is said between two moments of a log, put together. Assumes nothing.
-use Rattle.std.proofs.Common.{◌≡◌, ◌≢◌, ℕ, ◌+◌, Bool, true, false, ◌&&◌, List, [], ◌∷◌, ◌++◌, Option, Some, None, Ok, Err, Result, sym, refl, ap, ◌∙◌, subst, inl, inr, append_assoc}
+use Rattle.std.proofs.Common.{◌≡◌, ◌≢◌, ℕ, ◌+◌, Bool, true, false, ◌&&◌, List, [], ◌++◌, Option, Some, None, Ok, Err, Result, sym, refl, ap, ◌∙◌, subst, inl, append_assoc}
 use Rattle.std.proofs.lemmas.List.{append-nil}
 use Rattle.std.specs.declared.io.traits.Read.{Ghosts}
 use Rattle.std.specs.Io.KnownBytes.{Appends}
@@ -11,9 +11,10 @@ use Rattle.planfile.specs.Report.{refusal_line}
 use Rattle.planfile.proofs.Blames.{fault_numbered}
 use Rattle.planfile.specs.Text.{newline, parted_by}
 use Rattle.call_log.specs.declared.log.Log.{Log}
-use Rattle.call_log.specs.Logs.{Stage, over, Turn, Checked, LineSays, LogSays, end_says, refuses, says}
+use Rattle.call_log.specs.Logs.{Stage, over, Checked, LineSays, LogSays, end_says, refuses, says}
 use Rattle.call_log.specs.Reading.{Leads, LineRead, LineTold, SameLog, Tells, left_of}
-use Rattle.call_log.proofs.Lines.{end_leads, turn_leads}
+use Rattle.planfile.proofs.Parted.{some_part}
+use Rattle.call_log.proofs.Lines.{end_leads, over_says, turn_leads}
 
 pub and_true : (b : Bool) → b ≡ (b && true)
 and_true true = refl
@@ -103,3 +104,17 @@ module _ {R : Type 0} {reads : Ghosts R} where
   tells_end l m A B s read told well_formed xs known =
       let r = read xs known in
       ([], r.1, (end_says s (l.number + 1) []).said, (end_says s (l.number + 1) []).well_formed, told, well_formed, subst (Leads s (l.number + 1) xs _ _ over (m.number + 1)) r.0 (end_leads s (l.number + 1) (m.number + 1) xs r.0))
+
+  -- at the end all is said of a log
+  pub all_said : (first l : Log R reads) (A B : Option (List ℕ)) (s : Stage) (xs : List ℕ) → left_of first ≡ Some xs → first.number ≡ 0 → first.well_formed ≡ true → Tells first l A B s over → (said : List ℕ) × Appends A B said × LogSays s 1 (parted_by newline xs) said l.well_formed
+  all_said first l A B s xs known number fine tells =
+      let t = tells xs known in
+      let rest = over_says (l.number + 1) (parted_by newline t.0) (some_part newline t.0) in
+      let whole : LogSays s (first.number + 1) (parted_by newline xs) (t.2 ++ []) (t.3 && true) = t.6 [] true rest in
+      let ok : (t.3 && true) ≡ l.well_formed = sym (and_true t.3) ∙ sym (t.5 ∙ ap (λ b. b && t.3) fine) in (
+        t.2,
+        t.4,
+        subst (λ k. LogSays s (k + 1) (parted_by newline xs) t.2 l.well_formed) number
+            (subst (λ b. LogSays s (first.number + 1) (parted_by newline xs) t.2 b) ok
+            (subst (λ said. LogSays s (first.number + 1) (parted_by newline xs) said (t.3 && true)) (append-nil t.2) whole)),
+      )

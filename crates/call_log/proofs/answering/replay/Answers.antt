@@ -1,35 +1,39 @@
-use Rattle.std.proofs.Common.{rules, ◌≡◌, ℕ, ◌+◌, ◌<◌, ◌≤◌, ◌++◌, ◌&&◌, List, ◌∷◌, Some, IfOk, IfSome, IsTrue, OnOk, OnSome, MatchBool, MatchResult, true, false, ◌-◌, ◌*◌, length, ◌/◌, ◌%◌, Bool, nat_eq, nat_lt, [], slice_index_or, slice_set, bit_and, bit_or, Fits, w8, w32, w64, Bor, MutBor}
-use Rattle.std.specs.Io.KnownBytes.{Appends}
-use Rattle.demand.specs.declared.speed.Factor.{Factor as Clock}
-use Rattle.table.specs.History.{HasHistory, account_of}
-use Rattle.table.specs.Runs.{Event}
-use Rattle.runs.specs.declared.call.Reply.{Reply as Answer}
-use Rattle.runs.specs.Calls.{IsEvent, call_row}
-use Rattle.runs.specs.Desk.{table_of}
-use Rattle.runs.specs.Holds.{frame_of}
-use Rattle.planfile.specs.Checks.{row_demand}
-use Rattle.planfile.specs.Fault.{at_line, by, line_blame}
-use Rattle.planfile.specs.Report.{refusal_line}
-use Rattle.planfile.specs.Responses.{response_line, response_of}
-use Rattle.call_log.specs.Logs.{Replayed, clock_due, evening, table_due}
+-- Evening by evening, up to the end.
+use Rattle.std.proofs.Common.{◌≡◌, ap, ◌∙◌, arith}
+use Rattle.call_log.specs.Logs.{table_due}
+use Rattle.call_log.specs.Reading.{due_count, due_stage}
+use Rattle.call_log.proofs.Tells.{all_said, tells_more}
 use Rattle.call_log.proofs.answering.replay.Goals as goal
 
--- src/answering.rt:199:5
 pub loop-due-init : goal.loop-due-init
-loop-due-init g c = ?
+loop-due-init g c = record { few = c.in_ok-due.ensures.few; said = (c.new-log.result, c.new-log.ensures.left, c.new-log.ensures.number, c.new-log.ensures.well_formed, c.in_ok-due.ensures.tells) }
 
--- src/answering.rt:200:15
 pub evening-requires : goal.evening-requires
-evening-requires g c = ?
+evening-requires g c = rw c.in-Some.is at c.loop-due.invariant.few
 
--- src/answering.rt:199:5
 pub loop-due-smaller : goal.loop-due-smaller
-loop-due-smaller g c = ?
+loop-due-smaller g c =
+    let one : due_count c.loop-due.due ≡ 1 = ap due_count c.in-Some.is in
+    omega (arith, one, c.in_ok-due-2.ensures.fewer)
 
--- src/answering.rt:199:5
 pub loop-due-preserved : goal.loop-due-preserved
-loop-due-preserved g c = ?
+loop-due-preserved g c =
+    let before = c.loop-due.invariant.said in
+    let A = g.W.Write.contents c.args.out.now in
+    let B = g.W.Write.contents c.loop-due.out in
+    let C = g.W.Write.contents c.evening.new.out in
+    record {
+      few = c.in_ok-due-2.ensures.few;
+      said = (
+        before.0,
+        before.1,
+        before.2,
+        before.3,
+        tells_more before.0 c.loop-due.log c.evening.new.self A B C table_due (due_stage c.loop-due.due) (due_stage c.in_ok-due-2.due) before.4 (rw c.in-Some.is c.in_ok-due-2.ensures.tells),
+      );
+    }
 
--- src/answering.rt:192:1
 pub returns : goal.returns
-returns g c = ?
+returns g c input known =
+    let before = c.loop-due.invariant.said in
+    all_said before.0 c.loop-due.log (g.W.Write.contents c.args.out.now) (g.W.Write.contents c.loop-due.out) table_due input (before.1 ∙ known) before.2 before.3 (rw c.in_default.is at before.4)

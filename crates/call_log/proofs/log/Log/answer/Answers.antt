@@ -1,5 +1,5 @@
 -- What comes of the line at hand.
-use Rattle.std.proofs.Common.{◌≡◌, [], ◌∷◌, Ok, refl, ap, ◌∙◌}
+use Rattle.std.proofs.Common.{[], ◌∷◌, Ok, refl, ap, ◌∙◌}
 use Rattle.table.specs.History.{account_of}
 use Rattle.runs.specs.Calls.{call_row}
 use Rattle.runs.specs.Desk.{table_of}

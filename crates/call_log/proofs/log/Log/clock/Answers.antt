@@ -1,5 +1,5 @@
 -- A clock line is due, and the line is one, or it is refused.
-use Rattle.std.proofs.Common.{◌≡◌, [], subst}
+use Rattle.std.proofs.Common.{[], subst}
 use Rattle.std.specs.Io.KnownBytes.{Appends}
 use Rattle.call_log.specs.Logs.{clock_due, evening, over}
 use Rattle.table.specs.Account.{fresh}

@@ -1,5 +1,5 @@
 -- Line by line, up to a table line or the end of the log.
-use Rattle.std.proofs.Common.{◌≡◌, [], sym, ap, ◌∙◌, refl, subst, length, take, min, arith}
+use Rattle.std.proofs.Common.{[], sym, ap, ◌∙◌, refl, subst, arith}
 use Rattle.table.specs.History.{account_of}
 use Rattle.runs.specs.Desk.{table_of}
 use Rattle.call_log.specs.Logs.{clock_due, evening, over}

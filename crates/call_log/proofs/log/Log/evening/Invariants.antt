@@ -1,5 +1,5 @@
 -- The evening goes on, with the account of all calls on its table so far.
-use Rattle.std.proofs.Common.{ℕ, ◌+◌, ◌≤◌, List}
+use Rattle.std.proofs.Common.{◌≤◌, List}
 use Rattle.table.specs.History.{HasHistory, account_of}
 use Rattle.table.specs.Runs.{Event}
 use Rattle.runs.specs.Desk.{table_of}

@@ -1,5 +1,5 @@
 -- The first line is a table line, or it is refused.
-use Rattle.std.proofs.Common.{◌≡◌, [], subst}
+use Rattle.std.proofs.Common.{[], subst}
 use Rattle.std.specs.Io.KnownBytes.{Appends}
 use Rattle.call_log.specs.Logs.{clock_due, over, table_due}
 use Rattle.planfile.specs.Fault.{at_line, line_blame}
