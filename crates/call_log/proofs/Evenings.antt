@@ -1,7 +1,6 @@
 -- What comes of a call, and of the rows, by what the table of an evening has been through. Assumes nothing.
-use Rattle.std.proofs.Common.{◌≡◌, ℕ, ◌≤◌, min, true, false, List, [], ◌∷◌, length, take, Option, Some, None, sym, refl, ap, ◌∙◌, subst, arith}
+use Rattle.std.proofs.Common.{◌≡◌, ℕ, ◌≤◌, min, List, [], ◌∷◌, length, take, Option, Some, None, sym, refl, ap, ◌∙◌, subst, arith}
 use Rattle.std.proofs.lemmas.List.{length-take}
-use Rattle.std.specs.Option.{is_some}
 use Rattle.std.proofs.Math.Logic.{∥∥₁_map}
 use Rattle.analysis.specs.declared.Answer.{Answer}
 use Rattle.analysis.specs.Judge.{Answered}
@@ -23,19 +22,19 @@ use Rattle.planfile.specs.declared.request.Request.TheVariants.{Call, Rows}
 use Rattle.planfile.specs.Checks.{Jobs, row_demand}
 use Rattle.planfile.specs.Responses.{response_line, response_of}
 use Rattle.call_log.specs.Logs.{evening, RequestSays, rows_text, says}
-use Rattle.call_log.specs.Reading.{due_count, due_stage, stage_after}
+use Rattle.call_log.specs.Reading.{due_count}
 
 -- the account of a table bears its number
 number_after : (start : Account) (es : List Event) → start.number ≡ (after_all start es).number
 number_after start [] = refl
 number_after start (e ∷ es) = number_after start es ∙ sym (same_number (after_all start es) e).0
 
-module _ (clock : Factor) (k : ℕ) (es : List Event) (t u : Table (Slowed (Delayed Jobs))) where
+module _ (clock : Factor) (k : ℕ) (text : List ℕ) (es : List Event) (t u : Table (Slowed (Delayed Jobs))) where
   pub account_number : t.number ≡ (account_of es t).number
   account_number = number_after (fresh_of t) es
 
   -- a call was made
-  pub call_says : (c : TableCall (Slowed (Delayed Jobs))) (r : Reply) (e : Event) → fresh_of u ≡ fresh_of t → IsEvent row_demand u.number c r e → HasHistory row_demand (e ∷ es) u → RequestSays clock (account_of es t) k (Call c) (says (response_line (response_of k (call_row c) r)) (evening clock (account_of (e ∷ es) u)))
+  pub call_says : (c : TableCall (Slowed (Delayed Jobs))) (r : Reply) (e : Event) → fresh_of u ≡ fresh_of t → IsEvent row_demand u.number c r e → HasHistory row_demand (e ∷ es) u → RequestSays clock (account_of es t) k text (Call c) (says (response_line (response_of k (call_row c) r)) (evening clock (account_of (e ∷ es) u)))
   call_says c r e frame is known =
       let same : account_of es u ≡ account_of es t = ap (λ s. after_all s es) frame in (
         r,
@@ -46,7 +45,7 @@ module _ (clock : Factor) (k : ℕ) (es : List Event) (t u : Table (Slowed (Dela
       )
 
   -- all rows were told
-  pub rows_say : (said : List ℕ) → HasHistory row_demand es t → ((a : Account) → AgreesWith row_demand a t → (all : List Answer) × Answered (loads (ranked a.rows)) all × (said ≡ rows_text a all)) → RequestSays clock (account_of es t) k Rows (says said (evening clock (account_of es t)))
+  pub rows_say : (said : List ℕ) → HasHistory row_demand es t → ((a : Account) → AgreesWith row_demand a t → (all : List Answer) × Answered (loads (ranked a.rows)) all × (said ≡ rows_text a all)) → RequestSays clock (account_of es t) k text Rows (says said (evening clock (account_of es t)))
   rows_say said known told =
       ∥∥₁_map known (λ h. let all = told (account_of es t) h.agrees in (all.0, all.1, ap (λ s. says s (evening clock (account_of es t))) all.2))
 
@@ -57,16 +56,6 @@ few_places n xs twelve few = omega (arith, length-take n xs, twelve, few)
 -- an evening begins with no call
 pub opened : (clock : Factor) (o : Opening) (t : Table (Slowed (Delayed Jobs))) (n : ℕ) → fresh_of t ≡ fresh o.number n → n ≡ o.places → evening clock (account_of [] t) ≡ evening clock (fresh o.number o.places)
 opened clock o t n made few = ap (evening clock) made ∙ ap (λ k. evening clock (fresh o.number k)) few
-
-module _ (clock : Factor) (a : Account) where
-  -- another table was asked for, or none
-  pub some_due : (o : Option Opening) → true ≡ is_some o → stage_after clock a o ≡ due_stage o
-  some_due None e = absurd (cc)
-  some_due (Some o) e = refl
-
-  pub none_due : (o : Option Opening) → false ≡ is_some o → stage_after clock a o ≡ evening clock a
-  none_due None e = refl
-  none_due (Some o) e = absurd (cc)
 
 pub one_due : (o : Option Opening) → due_count o ≤ 1
 one_due None = omega arith

@@ -32,7 +32,7 @@ module _ (k : ℕ) (text items : List ℕ) (same : text ≡ items) where
     at_number = subst (λ n. RequestRead clock n text r) number read
 
     -- a request, or what is none
-    pub request_says : (request : Request) → r ≡ Ok request → (turn : Turn) → RequestSays clock a k request turn → LineSays (evening clock a) k items turn
+    pub request_says : (request : Request) → r ≡ Ok request → (turn : Turn) → RequestSays clock a k text request turn → LineSays (evening clock a) k items turn
     request_says request is turn answered =
         let asks = subst (λ q. RequestRead clock a.number text q) is at_number in
         subst (λ t. LineSays (evening clock a) k t turn) same (inr (asks.0, (request, asks.1, answered)))

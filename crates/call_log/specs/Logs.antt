@@ -54,27 +54,31 @@ abbrev pub rows_text : Account → List Answer → List ℕ
 rows_text a [] = []
 rows_text a (x ∷ xs) = row_response x (held x.number a.holds) ++ rows_text a xs
 
--- What comes of a request in line k, with this account before it.
-abbrev pub RequestSays : Factor → Account → ℕ → Request → Turn → Type 0
--- another table begins
-RequestSays clock a k (Table o) turn = turn ≡ says [] (clock_due o)
+-- What comes of line k where a table line is due, which is this text with its newline.
+abbrev pub TableSays : ℕ → List ℕ → Turn → Type 0
+TableSays k text turn =
+    Checked k (first_blame (opening_checks text)) over turn (turn ≡ says [] (clock_due (opening_of (first_fields text))))
+
+-- What comes of a request in line k, which is this text, with this account before it.
+abbrev pub RequestSays : Factor → Account → ℕ → List ℕ → Request → Turn → Type 0
+-- the evening is over, and the table line is read as one that is due
+RequestSays clock a k text Table turn = TableSays k text turn
 -- a call is answered as the account answers it
-RequestSays clock a k (Call c) turn =
+RequestSays clock a k text (Call c) turn =
     (r : Reply) × (e : Event) × IsEvent row_demand a.number c r e × ∥ Step a e (after a e) ∥₁
     × (turn ≡ says (response_line (response_of k (call_row c) r)) (evening clock (after a e)))
 -- all rows are told, highest first, with what is answered for them
-RequestSays clock a k Rows turn =
+RequestSays clock a k text Rows turn =
     ∥ ((all : List Answer) × Answered (loads (ranked a.rows)) all × (turn ≡ says (rows_text a all) (evening clock a))) ∥₁
 
 -- What comes of line k, which is this text with its newline.
 abbrev pub LineSays : Stage → ℕ → List ℕ → Turn → Type 0
-LineSays table_due k text turn =
-    Checked k (first_blame (opening_checks text)) over turn (turn ≡ says [] (clock_due (opening_of (first_fields text))))
+LineSays table_due k text turn = TableSays k text turn
 LineSays (clock_due o) k text turn =
     Checked k (first_blame (clock_line_checks text)) over turn (turn ≡ says [] (evening (clock_of (first_fields text)) (fresh o.number o.places)))
 LineSays (evening clock a) k text turn =
     Checked k (first_blame (request_checks text)) (evening clock a) turn
-    ((request : Request) × (request_of clock a.number text ≡ Some request) × RequestSays clock a k request turn)
+    ((request : Request) × (request_of clock a.number text ≡ Some request) × RequestSays clock a k text request turn)
 LineSays over k text turn = turn ≡ says [] over
 
 -- What comes of the end of a log, behind whose last newline this piece stands, as line k. A line without its newline is refused by 18, and so is a log

@@ -1,9 +1,11 @@
 -- A log while it is read, and what its functions do to it. Assumes nothing.
 -- How to read it: l is a log before a call and m the log after it. Which bytes a log still has is known where its reader says it.
-use Rattle.std.specs.Prelude.{◌≡◌, ◌≢◌, ℕ, ◌+◌, Bool, true, false, ◌&&◌, ◌⊎◌, List, [], ◌∷◌, ◌++◌, take, Option, Some, None, if◌then◌else◌}
+use Rattle.std.specs.Prelude.{◌≡◌, ◌≢◌, ℕ, ◌+◌, ◌≤◌, ⊤, Bool, true, false, ◌&&◌, ◌⊎◌, List, [], ◌∷◌, ◌++◌, take, Option, Some, None, if◌then◌else◌}
 use Rattle.std.specs.declared.io.traits.Read.{Ghosts}
 use Rattle.std.specs.Io.Iter.{bytes_remaining}
 use Rattle.std.specs.Io.KnownBytes.{Appends}
+use Rattle.call_log.specs.declared.answering.Next.{Next}
+use Rattle.call_log.specs.declared.answering.Next.TheVariants.{Line, Table, End}
 use Rattle.call_log.specs.declared.log.Log.{Log}
 use Rattle.call_log.specs.Counting.{to_come}
 use Rattle.call_log.specs.Logs.{Stage, clock_due, evening, over, Turn, LineSays, LogSays}
@@ -91,10 +93,17 @@ abbrev pub due_count : Option Opening → ℕ
 due_count None = 0
 due_count (Some o) = 1
 
--- where an evening stands after a line: it goes on, or another table was asked for
-abbrev pub stage_after : Factor → Account → Option Opening → Stage
-stage_after clock a None = evening clock a
-stage_after clock a (Some o) = clock_due o
+-- where an evening stands after a line
+abbrev pub stage_after : Factor → Account → Next → Stage
+stage_after clock a Line = evening clock a
+stage_after clock a (Table o) = clock_due o
+stage_after clock a End = over
+
+-- a table that follows has twelve places at most
+abbrev pub FewPlaces : Next → Type 0
+FewPlaces Line = ⊤
+FewPlaces (Table o) = o.places ≤ 12
+FewPlaces End = ⊤
 
 -- where a log stands behind the clock line of a table
 abbrev pub clock_stage : Opening → Option Factor → Stage

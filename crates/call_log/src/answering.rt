@@ -25,6 +25,17 @@ use runs::{Call, Desk};
 use std::alloc::Global;
 use std::io::{self, Read, Write};
 
+// What follows a line of an evening.
+#[derive(Clone, Copy)]
+pub(crate) enum Next {
+    // more lines of it
+    Line,
+    // another evening, at this table
+    Table(Opening),
+    // nothing: the rest is not looked at
+    End,
+}
+
 // Tells what a line is answered.
 fn tell<W: Write>(heap: Global, out: &mut W, response: Response) -> io::Result<()>
     ensures { OnOk result
@@ -55,7 +66,7 @@ fn make_call<W: Write>(
 }
 
 impl<R: Read + Drop> Log<R> {
-    ghost use Rattle.call_log.specs.Reading.{LineRead, LineTold, SameLog, Tells, bytes_left_of, clock_stage, due_count, due_stage, left_of, stage_after};
+    ghost use Rattle.call_log.specs.Reading.{LineRead, LineTold, SameLog, Tells, bytes_left_of, clock_stage, due_count, due_stage, left_of, stage_after, FewPlaces};
 
     // Refuses the line of this number.
     fn refuse<W: Write>(
@@ -91,6 +102,22 @@ impl<R: Read + Drop> Log<R> {
         Ok(false)
     }
 
+    // The table of the line at hand, where a table line is due.
+    fn read_table<W: Write>(&mut self, heap: Global, out: &mut W) -> io::Result<Option<Opening>>
+        ensures told { IfOk result (λ due. LineTold self.old self.new
+            (W.contents out.old) (W.contents out.new) table_due (due_stage due)) }
+        ensures few { IfOk result (λ due. IfSome due (λ o. o.places ≤ 12)) }
+        ensures same { SameLog self.old self.new }
+    {
+        match read_opening(&self.line) {
+            Ok(opening) => Ok(Some(opening)),
+            Err(fault) => {
+                self.refuse(heap, out, self.number, fault)?;
+                Ok(None)
+            }
+        }
+    }
+
     // The table of the first line.
     fn opening<W: Write>(&mut self, heap: Global, out: &mut W) -> io::Result<Option<Opening>>
         ensures tells { IfOk result (λ due. Tells self.old self.new
@@ -100,13 +127,7 @@ impl<R: Read + Drop> Log<R> {
         if !self.read_due(heap, out)? {
             return Ok(None);
         }
-        match read_opening(&self.line) {
-            Ok(opening) => Ok(Some(opening)),
-            Err(fault) => {
-                self.refuse(heap, out, self.number, fault)?;
-                Ok(None)
-            }
-        }
+        self.read_table(heap, out)
     }
 
     // The factor of the clock line that belongs to a table.
@@ -132,30 +153,35 @@ impl<R: Read + Drop> Log<R> {
         }
     }
 
-    // Answers the line at hand, which stands in an evening. If it is a table line, its table is the answer, and the evening is
-    // over.
+    // Answers the line at hand, which stands in an evening.
     fn answer<W: Write>(
         &mut self,
         heap: Global,
         out: &mut W,
         clock: Factor,
         desk: &mut Desk<'_, RowKind>,
-    ) -> io::Result<Option<Opening>>
-        ensures told { IfOk result (λ next. (es : List Event) → HasHistory row_demand es (table_of desk.old)
+    ) -> io::Result<Next>
+        ensures told { IfOk result (λ next. (es : List Event)
+            → HasHistory row_demand es (table_of desk.old)
             → (all : List Event) × HasHistory row_demand all (table_of desk.new)
             × LineTold self.old self.new (W.contents out.old) (W.contents out.new)
             (evening clock (account_of es (table_of desk.old)))
             (stage_after clock (account_of all (table_of desk.new)) next)) }
-        ensures few { IfOk result (λ next. IfSome next (λ o. o.places ≤ 12)) }
+        ensures few { IfOk result FewPlaces }
         ensures same { SameLog self.old self.new }
     {
         match read_request(&self.line, clock, desk.table().number()) {
-            Ok(Request::Table(opening)) => return Ok(Some(opening)),
             Ok(Request::Call(call)) => make_call(heap, out, desk, self.number, call)?,
             Ok(Request::Rows) => tell_rows(heap, out, desk)?,
+            Ok(Request::Table) => {
+                return Ok(match self.read_table(heap, out)? {
+                    Some(opening) => Next::Table(opening),
+                    None => Next::End,
+                });
+            }
             Err(fault) => self.refuse(heap, out, self.number, fault)?,
         }
-        Ok(None)
+        Ok(Next::Line)
     }
 
     // Answers the lines of an evening at this table. The answer is the table of the next evening, if one follows.
@@ -178,9 +204,10 @@ impl<R: Read + Drop> Log<R> {
         let mut places = [None; MOST_ROWS];
         let mut desk = Desk::new(heap, opening.number, &mut places[..opening.places]);
         while self.read_line()? {
-            let next = self.answer(heap, out, clock, &mut desk)?;
-            if next.is_some() {
-                return Ok(next);
+            match self.answer(heap, out, clock, &mut desk)? {
+                Next::Line => {}
+                Next::Table(opening) => return Ok(Some(opening)),
+                Next::End => return Ok(None),
             }
         }
         Ok(None)

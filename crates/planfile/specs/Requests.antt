@@ -1,7 +1,7 @@
 -- The lines of a log: which checks each meets, and what it asks. Assumes nothing.
 -- How to read it: `text` is a line with its newline, fs are its fields, which count from 1. Checks are as in Checks.antt. For a table line see
 -- `opening_checks` and `opening_of`, for its clock line `clock_line_checks`, for any other line `request_checks` and `request_of`.
-use Rattle.std.specs.Prelude.{◌≡◌, ℕ, Bool, true, false, not, ◌&&◌, ◌||◌, List, [], ◌∷◌, ◌++◌, length, Some, None, Option, Ok, Err, Result, cond, ◌≤◌, ⊤, codes, ◌==◌, nat_le, nat_lt}
+use Rattle.std.specs.Prelude.{◌≡◌, ℕ, Bool, true, false, not, ◌&&◌, ◌||◌, List, [], ◌∷◌, ◌++◌, length, Some, None, Option, Ok, Err, Result, cond, codes, ◌==◌, nat_le, nat_lt}
 use Rattle.std.specs.Cmp.Lexicographic.{pointwise}
 use Rattle.analysis.specs.declared.Task.{Task}
 use Rattle.demand.specs.declared.jitter.Delayed.{Delayed}
@@ -70,9 +70,10 @@ opening_checks text =
 abbrev pub clock_line_checks : List ℕ → List (Bool × Blame)
 clock_line_checks text = end_checks text ++ clock_checks (first_fields text)
 
--- When a line is refused behind its first word, by what this is; no other word is due.
+-- When a line of an evening is refused behind its first word, by what this is; no other word is due. A table line ends the evening, whatever stands
+-- behind its first word.
 abbrev pub verb_checks : Verb → List (List ℕ) → List (Bool × Blame)
-verb_checks Table fs = table_checks fs
+verb_checks Table fs = []
 verb_checks Hold fs = row_checks fs
 verb_checks Keep fs = count_checks fs 2 ++ number_checks fs 2 1
 verb_checks Release fs = count_checks fs 2 ++ number_checks fs 2 1
@@ -99,7 +100,7 @@ hold_in table fs = record { table = table; row = number_in fs 2 }
 
 -- what a line asks of this table, by its first word; no other word asks anything
 abbrev pub asked_by : Factor → ℕ → List (List ℕ) → Verb → Option Request
-asked_by clock table fs Table = Some (TableAsked (opening_of fs))
+asked_by clock table fs Table = Some TableAsked
 asked_by clock table fs Hold = Some (CallAsked (HoldCall (task_in clock fs)))
 asked_by clock table fs Keep = Some (CallAsked (KeepCall (hold_in table fs)))
 asked_by clock table fs Release = Some (CallAsked (ReleaseCall (hold_in table fs)))
@@ -107,12 +108,6 @@ asked_by clock table fs Withdraw = Some (CallAsked (WithdrawCall (number_in fs 2
 asked_by clock table fs Bound = Some (CallAsked (BoundCall (number_in fs 2)))
 asked_by clock table fs Rows = Some RowsAsked
 asked_by clock table fs Other = None
-
--- a table that is asked for has twelve places at most
-abbrev pub FewPlaces : Request → Type 0
-FewPlaces (TableAsked o) = o.places ≤ 12
-FewPlaces (CallAsked c) = ⊤
-FewPlaces RowsAsked = ⊤
 
 -- what a line of an evening asks
 abbrev pub request_of : Factor → ℕ → List ℕ → Option Request

@@ -3,7 +3,7 @@ ghost use Rattle.std.specs.Prelude.{◌≡◌, ◌≤◌, ◌++◌, IfOk};
 ghost use Rattle.planfile.specs.Checks.{clock_of, number_checks, number_in, row_checks, Reads};
 ghost use Rattle.planfile.specs.Cut.{Keeps};
 ghost use Rattle.planfile.specs.Reading.{first_fields};
-ghost use Rattle.planfile.specs.Requests.{clock_line_checks, count_checks, end_checks, FewPlaces, limit_checks, opening_checks, opening_of, RequestRead, table_checks, task_in};
+ghost use Rattle.planfile.specs.Requests.{clock_line_checks, count_checks, end_checks, limit_checks, opening_checks, opening_of, RequestRead, table_checks, task_in};
 
 use super::reader::{Line, Reader};
 use super::row::{RowKind, number_at, read_clock, read_row};
@@ -25,8 +25,8 @@ pub struct Opening {
 /// What a line of an evening asks.
 #[derive(Drop)]
 pub enum Request {
-    /// The evening is over, and another begins with this table.
-    Table(Opening),
+    /// The evening is over. What else the line says, as a table line, `read_opening` reads.
+    Table,
     /// A call on the table.
     Call(Call<RowKind>),
     /// What stands in the table.
@@ -128,12 +128,11 @@ pub fn read_clock_line(text: &[u8]) -> Result<Factor, LineFault>
 /// Reads a line of an evening, with its newline: what it asks of the table of this number, whose clock has this factor. The
 /// codes of a refusal are 1 to 3 and 15 to 18.
 pub fn read_request(text: &[u8], clock: Factor, table: u8) -> Result<Request, LineFault>
-    ensures request { RequestRead clock table text.now result }
-    ensures few { IfOk result FewPlaces }
+    ensures { RequestRead clock table text.now result }
 {
     let line = cut(text)?;
     let call = match read_verb(line.first()) {
-        Verb::Table => return Ok(Request::Table(read_table(&line)?)),
+        Verb::Table => return Ok(Request::Table),
         Verb::Rows => {
             check_count(&line, 1)?;
             return Ok(Request::Rows);

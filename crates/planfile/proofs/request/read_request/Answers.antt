@@ -10,8 +10,8 @@ use Rattle.planfile.specs.Text.{field}
 use Rattle.planfile.proofs.Blames.{numbered_end, passed}
 use Rattle.planfile.proofs.request.read_request.Goals as goal
 
-pub returns-in_err-read_task-in-Hold-clause-request : goal.returns-in_err-read_task-in-Hold-clause-request
-returns-in_err-read_task-in-Hold-clause-request c =
+pub returns-in_err-read_task-in-Hold : goal.returns-in_err-read_task-in-Hold
+returns-in_err-read_task-in-Hold c =
     let text = c.args.text.now in
     let fs = first_fields text in
     let p = err_from_is_err_and c.from_residual-in_err-read_task-in-Hold.result c.from_residual-in_err-read_task-in-Hold.ensures.1 in

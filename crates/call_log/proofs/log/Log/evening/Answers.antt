@@ -3,8 +3,8 @@ use Rattle.std.proofs.Common.{[], sym, ap, ◌∙◌, refl, subst, arith}
 use Rattle.table.specs.History.{account_of}
 use Rattle.runs.specs.Desk.{table_of}
 use Rattle.call_log.specs.Logs.{clock_due, evening, over}
-use Rattle.call_log.specs.Reading.{LineTold, Tells, due_stage}
-use Rattle.call_log.proofs.Evenings.{few_places, none_due, one_due, opened, some_due}
+use Rattle.call_log.specs.Reading.{LineTold, Tells, stage_after}
+use Rattle.call_log.proofs.Evenings.{few_places, opened}
 use Rattle.call_log.proofs.Tells.{and_true, appends_none, tells_end, tells_line, tells_more}
 use Rattle.call_log.proofs.log.Log.evening.Goals as goal
 
@@ -22,8 +22,8 @@ loop-desk-init g c =
       fewer = c.in_ok-clock.ensures.fewer;
     }
 
-pub returns-then-is_some-clause-tells : goal.returns-then-is_some-clause-tells
-returns-then-is_some-clause-tells g c =
+pub returns-in-Table-clause-tells : goal.returns-in-Table-clause-tells
+returns-in-Table-clause-tells g c =
     let before = c.loop-desk.invariant.calls in
     let l = c.loop-desk.self in
     let m = c.read_line.new.self in
@@ -33,19 +33,34 @@ returns-then-is_some-clause-tells g c =
     let C = g.W.Write.contents c.answer.new.out in
     let clock = c.in-Some.clock in
     let s = evening clock (account_of before.0 (table_of c.loop-desk.desk)) in
-    let told = c.in_ok-next.ensures.told before.0 before.1 in
-    let u = due_stage c.in_ok-next.next in
-    let line = subst (λ t. LineTold m n B C s t) (some_due clock (account_of told.0 (table_of c.answer.new.desk)) c.in_ok-next.next c.if-is_some.ensures) told.2 in
+    let told = c.in_ok-answer.ensures.told before.0 before.1 in
+    let a = account_of told.0 (table_of c.answer.new.desk) in
+    let u = clock_due c.in-Table.opening in
+    let line : LineTold m n B C s u = subst (λ next. LineTold m n B C s (stage_after clock a next)) c.in-Table.is told.2 in
     tells_more c.args.self.now l n A B C (clock_due c.args.opening) s u before.2
     (tells_line l m n B C s u (rw c.if-branch.true at c.in_ok-read_line.ensures.line) (rw c.if-branch.true at c.in_ok-read_line.ensures.number) c.in_ok-read_line.ensures.well_formed line)
 
-pub returns-then-is_some-clause-fewer : goal.returns-then-is_some-clause-fewer
-returns-then-is_some-clause-fewer g c =
-    omega (arith, one_due c.in_ok-next.next, c.in_ok-next.ensures.same.fewer, rw c.if-branch.true at c.in_ok-read_line.ensures.fewer, c.loop-desk.invariant.fewer)
+pub returns-in-End-clause-tells : goal.returns-in-End-clause-tells
+returns-in-End-clause-tells g c =
+    let before = c.loop-desk.invariant.calls in
+    let l = c.loop-desk.self in
+    let m = c.read_line.new.self in
+    let n = c.answer.new.self in
+    let A = g.W.Write.contents c.args.out.now in
+    let B = g.W.Write.contents c.loop-desk.out in
+    let C = g.W.Write.contents c.answer.new.out in
+    let clock = c.in-Some.clock in
+    let s = evening clock (account_of before.0 (table_of c.loop-desk.desk)) in
+    let told = c.in_ok-answer.ensures.told before.0 before.1 in
+    let a = account_of told.0 (table_of c.answer.new.desk) in
+    let u = over in
+    let line : LineTold m n B C s u = subst (λ next. LineTold m n B C s (stage_after clock a next)) c.in-End.is told.2 in
+    tells_more c.args.self.now l n A B C (clock_due c.args.opening) s u before.2
+    (tells_line l m n B C s u (rw c.if-branch.true at c.in_ok-read_line.ensures.line) (rw c.if-branch.true at c.in_ok-read_line.ensures.number) c.in_ok-read_line.ensures.well_formed line)
 
 pub loop-desk-smaller : goal.loop-desk-smaller
 loop-desk-smaller g c =
-    omega (arith, c.in_ok-next.ensures.same.fewer, rw c.if-branch.true at c.in_ok-read_line.ensures.fewer)
+    omega (arith, c.in_ok-answer.ensures.same.fewer, rw c.if-branch.true at c.in_ok-read_line.ensures.fewer)
 
 pub loop-desk-preserved : goal.loop-desk-preserved
 loop-desk-preserved g c =
@@ -58,9 +73,10 @@ loop-desk-preserved g c =
     let C = g.W.Write.contents c.answer.new.out in
     let clock = c.in-Some.clock in
     let s = evening clock (account_of before.0 (table_of c.loop-desk.desk)) in
-    let told = c.in_ok-next.ensures.told before.0 before.1 in
-    let u = evening clock (account_of told.0 (table_of c.answer.new.desk)) in
-    let line = subst (λ t. LineTold m n B C s t) (none_due clock (account_of told.0 (table_of c.answer.new.desk)) c.in_ok-next.next c.if-is_some.ensures) told.2 in
+    let told = c.in_ok-answer.ensures.told before.0 before.1 in
+    let a = account_of told.0 (table_of c.answer.new.desk) in
+    let u = evening clock a in
+    let line : LineTold m n B C s u = subst (λ next. LineTold m n B C s (stage_after clock a next)) c.in-Line.is told.2 in
     record {
       calls = (
         told.0,
@@ -68,7 +84,7 @@ loop-desk-preserved g c =
         tells_more c.args.self.now l n A B C (clock_due c.args.opening) s u before.2
             (tells_line l m n B C s u (rw c.if-branch.true at c.in_ok-read_line.ensures.line) (rw c.if-branch.true at c.in_ok-read_line.ensures.number) c.in_ok-read_line.ensures.well_formed line),
       );
-      fewer = omega (arith, c.in_ok-next.ensures.same.fewer, rw c.if-branch.true at c.in_ok-read_line.ensures.fewer, c.loop-desk.invariant.fewer);
+      fewer = omega (arith, c.in_ok-answer.ensures.same.fewer, rw c.if-branch.true at c.in_ok-read_line.ensures.fewer, c.loop-desk.invariant.fewer);
     }
 
 pub returns-clause-tells : goal.returns-clause-tells

@@ -1,32 +1,17 @@
--- The first line is a table line, or it is refused.
-use Rattle.std.proofs.Common.{[], subst}
-use Rattle.std.specs.Io.KnownBytes.{Appends}
-use Rattle.call_log.specs.Logs.{clock_due, over, table_due}
-use Rattle.planfile.specs.Fault.{at_line, line_blame}
-use Rattle.planfile.specs.Report.{refusal_line}
-use Rattle.call_log.proofs.Says.{opening_refused, opening_says}
-use Rattle.call_log.proofs.Tells.{appends_none, tells_line, told_refused, told_text}
+-- A table line is due, and the line that is read is answered as one.
+use Rattle.std.proofs.Common.{subst}
+use Rattle.std.proofs.lemmas.Result.{IfOk-weaker}
+use Rattle.call_log.specs.Logs.{table_due}
+use Rattle.call_log.specs.Reading.{LineTold, due_stage}
+use Rattle.call_log.proofs.Tells.{tells_line}
 use Rattle.call_log.proofs.log.Log.opening.Goals as goal
 
-pub returns-in-Ok-clause-tells : goal.returns-in-Ok-clause-tells
-returns-in-Ok-clause-tells g c =
+pub returns-clause-tells : goal.returns-clause-tells
+returns-clause-tells g c =
     let due = rw c.if-not-branch.false at c.in_ok-read_due.ensures.line in
     let l = c.args.self.now in
     let m = c.read_due.new.self in
+    let n = c.read_table.new.self in
     let A = g.W.Write.contents c.args.out.now in
-    let B = g.W.Write.contents c.read_due.new.out in
-    let table = c.in-Ok.ensures.table in
-    tells_line l m m A B table_due (clock_due c.in-Ok.opening) due.0 due.1 due.2
-    (told_text m A B table_due (clock_due c.in-Ok.opening) [] (appends_none A B due.3) (opening_says m.number c.deref.result.now m.line.items c.deref.ensures.value c.in-Ok.opening table.0 table.1))
-
-pub returns-in_ok-refuse-in-Err-clause-tells : goal.returns-in_ok-refuse-in-Err-clause-tells
-returns-in_ok-refuse-in-Err-clause-tells g c =
-    let due = rw c.if-not-branch.false at c.in_ok-read_due.ensures.line in
-    let l = c.args.self.now in
-    let m = c.read_due.new.self in
-    let n = c.refuse.new.self in
-    let A = g.W.Write.contents c.args.out.now in
-    let C = g.W.Write.contents c.refuse.new.out in
-    let refused = c.in_ok-refuse-in-Err.ensures in
-    tells_line l m n A C table_due over due.0 due.1 due.2
-    (told_refused m n A C table_due over (line_blame c.in-Err.fault) refused.same refused.malformed (subst (λ X. Appends X C (refusal_line (at_line m.number (line_blame c.in-Err.fault)))) due.3 refused.told) (opening_refused m.number c.deref.result.now m.line.items c.deref.ensures.value c.in-Err.fault c.in-Err.ensures.table))
+    let C = g.W.Write.contents c.read_table.new.out in
+    IfOk-weaker c.read_table.result _ _ (λ o told. tells_line l m n A C table_due (due_stage o) due.0 due.1 due.2 (subst (λ X. LineTold m n X C table_due (due_stage o)) due.3 told)) c.read_table.ensures.told
