@@ -204,3 +204,32 @@ fn a_register(rt: HostRuntime) -> Result<(), Fail> {
     assert_eq!(rt; register.table().state_of(2), State::Free);
     Ok(())
 }
+
+// Calls are made one by one, and each is about a row.
+#[test]
+fn one_call_after_the_other(rt: HostRuntime) -> Result<(), Fail> {
+    let heap = rt.alloc();
+    let mut places = [EMPTY; 1];
+    let mut desk = Desk::new(heap, 3, &mut places);
+    let calls: [Call<Every>; 5] = [
+        Call::Hold(task(1)),
+        Call::Keep(hold(3, 1)),
+        Call::Release(hold(3, 1)),
+        Call::Bound(1),
+        Call::Withdraw(1),
+    ];
+    let due = [
+        Reply::Hold(Ok(())),
+        Reply::Keep(Ok(())),
+        Reply::Release(Err(NotHeld)),
+        Reply::Bound(Ok((1, 0))),
+        Reply::Withdraw(Ok(())),
+    ];
+    for (call, due) in Vec::from_array(heap, calls)?.into_iter().zip(due) {
+        assert_eq!(rt; call.row(), 1);
+        let reply = desk.call(heap, call)?;
+        assert_eq!(rt; reply, due);
+    }
+    assert_eq!(rt; desk.table().room(), 1);
+    Ok(())
+}
