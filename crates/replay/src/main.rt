@@ -2,6 +2,8 @@
 #![tactic(auto)]
 
 mod help;
+#[cfg(test)]
+mod tests;
 
 use anyhow::{Context, anyhow};
 use call_log::replay;
