@@ -1,7 +1,6 @@
 // A log, answered line by line.
-ghost use Rattle.std.specs.Prelude.{◌≡◌, ℕ, ◌+◌, ◌<◌, ◌≤◌, ◌++◌, ◌&&◌, List, ◌∷◌, Some, IfOk, IfSome, IsTrue, OnOk, OnSome, MatchBool, MatchResult, true, false};
+ghost use Rattle.std.specs.Prelude.{◌≡◌, ℕ, ◌+◌, ◌≤◌, List, ◌∷◌, Some, IfOk, IfSome, OnOk, MatchBool, true, false};
 ghost use Rattle.std.specs.Io.KnownBytes.{Appends};
-ghost use Rattle.demand.specs.declared.speed.Factor.{Factor as Clock};
 ghost use Rattle.table.specs.History.{HasHistory, account_of};
 ghost use Rattle.table.specs.Runs.{Event};
 ghost use Rattle.runs.specs.declared.call.Reply.{Reply as Answer};
@@ -66,7 +65,7 @@ fn make_call<W: Write>(
 }
 
 impl<R: Read + Drop> Log<R> {
-    ghost use Rattle.call_log.specs.Reading.{LineRead, LineTold, SameLog, Tells, bytes_left_of, clock_stage, due_count, due_stage, left_of, stage_after, FewPlaces};
+    ghost use Rattle.call_log.specs.Reading.{LineRead, LineTold, SameLog, Tells, bytes_left_of, clock_stage, due_count, due_stage, stage_after, FewPlaces};
 
     // Refuses the line of this number.
     fn refuse<W: Write>(
@@ -138,7 +137,8 @@ impl<R: Read + Drop> Log<R> {
         opening: Opening,
     ) -> io::Result<Option<Factor>>
         ensures tells { IfOk result (λ clock. Tells self.old self.new
-            (W.contents out.old) (W.contents out.new) (clock_due opening) (clock_stage opening clock)) }
+            (W.contents out.old) (W.contents out.new)
+            (clock_due opening) (clock_stage opening clock)) }
         ensures fewer { OnOk result (bytes_left_of self.new ≤ bytes_left_of self.old) }
     {
         if !self.read_due(heap, out)? {

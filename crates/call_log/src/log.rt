@@ -1,5 +1,5 @@
 // A log, read line by line.
-ghost use Rattle.std.specs.Prelude.{◌≡◌, ◌+◌, ◌^◌, ◌<◌, ◌≤◌, min, true, [], ◌∷◌, ◌++◌, length, take, IfOk, IfSome, IsTrue, MatchBool, OnOk};
+ghost use Rattle.std.specs.Prelude.{◌≡◌, ◌+◌, ◌^◌, ◌<◌, ◌≤◌, min, true, [], ◌∷◌, ◌++◌, length, take, IfOk, IfSome, MatchBool, OnOk};
 ghost use Rattle.call_log.specs.Counting.{to_come};
 
 use planfile::LONGEST_LINE;
@@ -78,8 +78,9 @@ impl<R: Read + Drop> Log<R> {
         ensures fewer { IfOk result (λ more. MatchBool more
             (bytes_left_of self.new < bytes_left_of self.old)
             (bytes_left_of self.new ≤ bytes_left_of self.old)) }
-        ensures number { IfOk result (λ more.
-            MatchBool more (self.new.number ≡ self.old.number + 1) (self.new.number ≡ self.old.number)) }
+        ensures number { IfOk result (λ more. MatchBool more
+            (self.new.number ≡ self.old.number + 1)
+            (self.new.number ≡ self.old.number)) }
         ensures well_formed { self.new.well_formed ≡ self.old.well_formed }
     {
         self.line.clear();

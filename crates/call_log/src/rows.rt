@@ -47,9 +47,11 @@ pub(crate) fn tell_rows<W: Write>(
     out: &mut W,
     desk: &Desk<'_, RowKind>,
 ) -> io::Result<()>
-    ensures { OnOk result ((said : List ℕ) × Appends (W.contents out.old) (W.contents out.new) said
+    ensures { OnOk result ((said : List ℕ)
+        × Appends (W.contents out.old) (W.contents out.new) said
         × ((a : Account) → AgreesWith row_demand a (table_of desk.now)
-        → (all : List Row) × Answered (loads (ranked a.rows)) all × (said ≡ rows_text a all))) }
+        → (all : List Row) × Answered (loads (ranked a.rows)) all
+        × (said ≡ rows_text a all))) }
 {
     let answers = desk.answers();
     let mut text = String::new(heap);

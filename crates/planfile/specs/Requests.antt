@@ -51,6 +51,10 @@ end_checks text = (nat_lt 4096 (length text) || not (ended text), by 18) ∷ []
 abbrev pub count_checks : List (List ℕ) → ℕ → List (Bool × Blame)
 count_checks fs n = (not (length fs == n), by 15) ∷ []
 
+-- There is not just one field behind the first word, or it is no number.
+abbrev pub single_checks : List (List ℕ) → List (Bool × Blame)
+single_checks fs = count_checks fs 2 ++ number_checks fs 2 1
+
 -- field k is no number, or one above the limit
 abbrev pub limit_checks : List (List ℕ) → ℕ → ℕ → List (Bool × Blame)
 limit_checks fs k limit = (not (is_number (field k fs) && nat_le (number_in fs k) limit), by_field 16 k) ∷ []
@@ -75,10 +79,10 @@ clock_line_checks text = end_checks text ++ clock_checks (first_fields text)
 abbrev pub verb_checks : Verb → List (List ℕ) → List (Bool × Blame)
 verb_checks Table fs = []
 verb_checks Hold fs = row_checks fs
-verb_checks Keep fs = count_checks fs 2 ++ number_checks fs 2 1
-verb_checks Release fs = count_checks fs 2 ++ number_checks fs 2 1
-verb_checks Withdraw fs = count_checks fs 2 ++ number_checks fs 2 1
-verb_checks Bound fs = count_checks fs 2 ++ number_checks fs 2 1
+verb_checks Keep fs = single_checks fs
+verb_checks Release fs = single_checks fs
+verb_checks Withdraw fs = single_checks fs
+verb_checks Bound fs = single_checks fs
 verb_checks Rows fs = count_checks fs 1
 verb_checks Other fs = (true, by_field 17 1) ∷ []
 

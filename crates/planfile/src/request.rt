@@ -1,9 +1,9 @@
 // The lines of a log of calls: from their bytes to what each asks.
-ghost use Rattle.std.specs.Prelude.{◌≡◌, ◌≤◌, ◌++◌, IfOk};
-ghost use Rattle.planfile.specs.Checks.{clock_of, number_checks, number_in, row_checks, Reads};
+ghost use Rattle.std.specs.Prelude.{◌≤◌, IfOk};
+ghost use Rattle.planfile.specs.Checks.{clock_of, number_in, row_checks, Reads};
 ghost use Rattle.planfile.specs.Cut.{Keeps};
 ghost use Rattle.planfile.specs.Reading.{first_fields};
-ghost use Rattle.planfile.specs.Requests.{clock_line_checks, count_checks, end_checks, limit_checks, opening_checks, opening_of, RequestRead, table_checks, task_in};
+ghost use Rattle.planfile.specs.Requests.{clock_line_checks, count_checks, end_checks, limit_checks, opening_checks, opening_of, RequestRead, single_checks, table_checks, task_in};
 
 use super::reader::{Line, Reader};
 use super::row::{RowKind, number_at, read_clock, read_row};
@@ -77,7 +77,7 @@ fn number_up_to(line: &Line, index: usize, limit: u32) -> Result<u32, LineFault>
 
 // The one number behind the first word.
 fn read_number_behind(line: &Line) -> Result<u32, LineFault>
-    ensures { Reads (count_checks line.now 2 ++ number_checks line.now 2 1) (number_in line.now 2) result }
+    ensures { Reads (single_checks line.now) (number_in line.now 2) result }
 {
     check_count(line, 2)?;
     number_at(line, 2)
