@@ -47,10 +47,11 @@ Checks beside those that `plan --help` lists:
     18  the line has more than 4,096 bytes, or no newline; with line 0, the log ends where a table line or
         its clock line is due
 
-After a line that is refused the log goes on; but a table line or a clock line that is refused ends it.
+After a line that is refused the log goes on; but where a table line or a clock line is due, or a line
+begins with `table`, a refusal ends it. A line that is refused by 18 in an evening ends nothing.
 
 Exit status: 0 where every line was well formed (5 to 14 are answers), 1 where some line was refused by 1
-to 4 or 15 to 18, 2 if reading or writing fails or for an unknown argument.
+to 4 or 15 to 18, 2 if reading or writing fails, for want of memory, or for an unknown argument.
 
 Example. One table of twelve places, where a car is held and then kept:
 
