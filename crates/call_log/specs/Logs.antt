@@ -45,7 +45,7 @@ says text next = record { said = text; well_formed = true; next = next }
 abbrev pub refuses : ℕ → Blame → Stage → Turn
 refuses k b next = record { said = refusal_line (at_line k b); well_formed = false; next = next }
 
--- A line that meets these checks is refused for the first that applies, which leads to the stage s; else there is more to say.
+-- b is what the first check of line k says that applies. If one does, the line is refused for it, and the log stands at s; else there is more to say.
 abbrev pub Checked : ℕ → Blame → Stage → Turn → Type 0 → Type 0
 Checked k b s turn More = ((b.number ≢ 0) × (turn ≡ refuses k b s)) ⊎ ((b ≡ nothing) × More)
 

@@ -64,7 +64,7 @@ module _ {R : Type 0} {reads : Ghosts R} where
     pub line : m.line ≡ l.line
     pub number : m.number ≡ l.number
     pub left : left_of m ≡ left_of l
-    pub fewer : bytes_left_of m ≡ bytes_left_of l
+    pub to_come : bytes_left_of m ≡ bytes_left_of l
 
   -- What was said between two moments: it follows from what is said of the bytes that are left then.
   abbrev pub Tells : Log R reads → Log R reads → Option (List ℕ) → Option (List ℕ) → Stage → Stage → Type 0

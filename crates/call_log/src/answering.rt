@@ -35,7 +35,7 @@ pub(crate) enum Next {
     End,
 }
 
-// Tells what a line is answered.
+// Tells what a line is answered, in one write: who reads the answers gets no part of a line.
 fn tell<W: Write>(heap: Global, out: &mut W, response: Response) -> io::Result<()>
     ensures { OnOk result
         (Appends (W.contents out.old) (W.contents out.new) (response_line response)) }
@@ -215,7 +215,8 @@ impl<R: Read + Drop> Log<R> {
 }
 
 /// Reads a log and writes what its lines are answered, each before the next line is read. The answer is whether all lines were
-/// well formed. An error is one of reading or writing, or want of memory; what was written till then stands.
+/// well formed. An error is one of reading or writing, or want of memory; what was written till then stands. The contract is for
+/// logs whose bytes are known, and leaves open what an error leaves and when a byte is read or written.
 pub fn replay<R: Read + Drop, W: Write>(heap: Global, log: R, out: &mut W) -> io::Result<bool>
     ensures { IfOk result (λ well_formed. (input : List ℕ) → R.remaining log ≡ Some input
         → (said : List ℕ) × Appends (W.contents out.old) (W.contents out.new) said

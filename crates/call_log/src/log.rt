@@ -64,7 +64,7 @@ impl<R: Read + Drop> Log<R> {
         ensures same { SameSoFar self.old self.new }
     {
         while let Some(byte) = self.next_byte()? {
-            keep(&mut self.line, byte)?;
+            push_byte(&mut self.line, byte)?;
             if byte == b'\n' {
                 return Ok(());
             }
@@ -94,7 +94,7 @@ impl<R: Read + Drop> Log<R> {
 }
 
 // Puts a byte behind those of a line, of which one more is kept than it may have.
-fn keep(line: &mut Vec<u8>, byte: u8) -> io::Result<()>
+fn push_byte(line: &mut Vec<u8>, byte: u8) -> io::Result<()>
     requires { length line.old.items ≤ 4097 }
     ensures { OnOk result (line.new.items ≡ take 4097 (line.old.items ++ byte ∷ [])) }
 {

@@ -59,7 +59,8 @@ single_checks fs = count_checks fs 2 ++ number_checks fs 2 1
 abbrev pub limit_checks : List (List ℕ) → ℕ → ℕ → List (Bool × Blame)
 limit_checks fs k limit = (not (is_number (field k fs) && nat_le (number_in fs k) limit), by_field 16 k) ∷ []
 
--- When a table line is refused behind its first word, in this order: the number of the table is at most 255, that of its places at most 12.
+-- When a table line is refused behind its first word, in this order: there are not just two fields behind it; the number of the table is none, or
+-- above 255; that of its places is none, or above 12.
 abbrev pub table_checks : List (List ℕ) → List (Bool × Blame)
 table_checks fs = count_checks fs 3 ++ (limit_checks fs 2 255 ++ limit_checks fs 3 12)
 

@@ -1,4 +1,4 @@
-// What is wrong with a plan file, by layers: a field, a line, the file.
+// What is wrong with a plan file, by layers: a field, a line, the file. Of a log it is a field or a line.
 ghost use Rattle.std.specs.Prelude.{◌≡◌};
 ghost use Rattle.table.specs.Account.{hold_late};
 ghost use Rattle.planfile.specs.Fault.{field_number, by, blame, line_blame};
@@ -28,7 +28,7 @@ impl FieldFault {
 pub enum LineFault {
     // the field is not a word that is due there
     Word(u32),
-    // it is a line of a log that is too long, or that has no newline
+    /// it is a line of a log that is too long, or that has no newline
     Length,
     // there are too few fields, or too many
     Count,

@@ -1,4 +1,5 @@
-// Plan files: the bytes of a file to the rows of a table, and the report of it; or what is wrong with the file.
+//! Plan files: the bytes of a file to the rows of a table, and the report of it; or what is wrong with the file. Begin at
+//! [`answer`]. And lines of logs: from their bytes to what each asks ([`read_request`]), and what each is answered ([`Response`]).
 #![tactic(auto)]
 
 ghost use Rattle.std.specs.Prelude.{◌≡◌, true};

@@ -106,7 +106,8 @@ fn read_task(line: &Line, clock: Factor) -> Result<Task<RowKind>, LineFault>
     Ok(Task { row, kind })
 }
 
-/// Reads a line that has to be a table line, with its newline. The codes of a refusal are 15 to 18.
+/// Reads a line that has to be a table line, with its newline; what follows the newline is not looked at. The codes of a
+/// refusal are 15 to 18.
 pub fn read_opening(text: &[u8]) -> Result<Opening, LineFault>
     ensures table { Reads (opening_checks text.now) (opening_of (first_fields text.now)) result }
     ensures few { IfOk result (λ table. table.places ≤ 12) }
@@ -118,15 +119,16 @@ pub fn read_opening(text: &[u8]) -> Result<Opening, LineFault>
     read_table(&line)
 }
 
-/// Reads a line that has to be a clock line, with its newline. The codes of a refusal are 4 and 15 to 18.
+/// Reads a line that has to be a clock line, with its newline; what follows the newline is not looked at. The codes of a
+/// refusal are 4 and 15 to 18.
 pub fn read_clock_line(text: &[u8]) -> Result<Factor, LineFault>
     ensures { Reads (clock_line_checks text.now) (clock_of (first_fields text.now)) result }
 {
     read_clock(&cut(text)?)
 }
 
-/// Reads a line of an evening, with its newline: what it asks of the table of this number, whose clock has this factor. The
-/// codes of a refusal are 1 to 3 and 15 to 18.
+/// Reads a line of an evening, with its newline: what it asks of the table of this number, whose clock has this factor. What
+/// follows the newline is not looked at. The codes of a refusal are 1 to 3 and 15 to 18.
 pub fn read_request(text: &[u8], clock: Factor, table: u8) -> Result<Request, LineFault>
     ensures { RequestRead clock table text.now result }
 {

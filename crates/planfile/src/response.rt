@@ -19,11 +19,11 @@ pub enum Response {
     Released(u32),
     /// It was kept, and is out.
     Withdrawn(u32),
-    /// The row of this number has this bound, in ticks, under this vector.
+    /// The row of the first number has this bound, in ticks, under this vector.
     Bounded(u32, u32, u32),
     /// What is answered for a row of the table, and whether it is held; else it is kept.
     Row(Answer, bool),
-    /// The line of this number is refused.
+    /// The line of this number is refused. It is told, and not the line that the blame has.
     Refused(u64, Blame),
 }
 

@@ -35,7 +35,7 @@ Each line is answered before the next one is read. A table line and a clock line
                                  the line is refused. Lines and fields are counted from 1, and 0 says that
                                  none is to blame
 
-Checks beside those that `plan --help` lists:
+Checks 1 to 9 and 11 are as `plan --help` says, of the rows that are in the table. The others:
 
     10  the table has no place left
     12  keep, release: no hold on this row is in hand

@@ -50,10 +50,7 @@ fn complain(rt: &HostRuntime, error: &anyhow::Error) -> Outcome {
 fn answer_files(rt: &HostRuntime, names: &[String]) -> Outcome {
     let mut worst = Outcome::WellFormed;
     for name in names {
-        let outcome = match answer_file(rt, name.as_str()) {
-            Ok(outcome) => outcome,
-            Err(error) => complain(rt, &error),
-        };
+        let outcome = answer_file(rt, name.as_str()).unwrap_or_else(|error| complain(rt, &error));
         worst = worst.max(outcome);
     }
     worst
@@ -75,9 +72,6 @@ fn run(rt: &HostRuntime) -> anyhow::Result<Outcome> {
 }
 
 fn main(rt: HostRuntime) -> ExitCode {
-    let outcome = match run(&rt) {
-        Ok(outcome) => outcome,
-        Err(error) => complain(&rt, &error),
-    };
+    let outcome = run(&rt).unwrap_or_else(|error| complain(&rt, &error));
     ExitCode::from(outcome as u8)
 }

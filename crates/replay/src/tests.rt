@@ -7,7 +7,7 @@ use planfile::{
     read_request,
 };
 use runs::{Call, HoldId, NotHeld, Reply};
-use std::alloc::Global;
+use std::alloc::{AllocError, Global};
 use std::fs;
 use std::io::{self, Read, Write};
 use std::process::Abort;
@@ -20,18 +20,18 @@ const EVENING: &[u8] = b"table\t1\t12\nclock\t1\t1\n";
 // A row that nothing speaks against, as the fields of a hold line or a row line behind the first word.
 const ROW: &[u8] = b"\t7\t20\t0\t0\t15\t0\t0\t0\t0\t0\t0\t0\t0\t0\tevery\t3\t16\n";
 
-// Wants that this is written for a log that consists of these parts, and whether all of its lines are well formed.
-fn expect<const N: usize>(
-    rt: &impl Abort,
-    heap: Global,
-    parts: [&[u8]; N],
+// Wants that this is written for a log of two parts, and whether all of its lines are well formed.
+fn expect(
+    rt: &(impl Abort + AllocGlobal),
+    start: &[u8],
+    rest: &[u8],
     said: &[u8],
     well_formed: bool,
 ) -> Result<(), Fail> {
+    let heap = rt.alloc();
     let mut log = Vec::new(heap);
-    for part in parts {
-        log.extend_from_slice(part)?;
-    }
+    log.extend_from_slice(start)?;
+    log.extend_from_slice(rest)?;
     let mut out = Vec::new(heap);
     let answer = replay(heap, log.as_slice(), &mut out)?;
     assert_eq!(rt; out.as_slice(), said);
@@ -41,157 +41,121 @@ fn expect<const N: usize>(
 
 #[test]
 fn empty_log(rt: HostRuntime) -> Result<(), Fail> {
-    expect(&rt, rt.alloc(), [], b"refused\t0\t0\t18\t0\n", false)
+    expect(&rt, b"", b"", b"refused\t0\t0\t18\t0\n", false)
 }
 
 // A log of one line lacks the clock line of its table; one that is no table line, or has no newline, is refused for that.
 #[test]
 fn one_line(rt: HostRuntime) -> Result<(), Fail> {
-    let heap = rt.alloc();
     expect(
         &rt,
-        heap,
-        [b"table\t1\t12\n"],
+        b"table\t1\t12\n",
+        b"",
         b"refused\t0\t0\t18\t0\n",
         false,
     )?;
-    expect(
-        &rt,
-        heap,
-        [b"clock\t1\t1\n"],
-        b"refused\t1\t1\t17\t0\n",
-        false,
-    )?;
-    expect(
-        &rt,
-        heap,
-        [b"table\t1\t12"],
-        b"refused\t1\t0\t18\t0\n",
-        false,
-    )?;
-    expect(&rt, heap, [b"\n"], b"refused\t1\t1\t17\t0\n", false)
+    expect(&rt, b"clock\t1\t1\n", b"", b"refused\t1\t1\t17\t0\n", false)?;
+    expect(&rt, b"table\t1\t12", b"", b"refused\t1\t0\t18\t0\n", false)?;
+    expect(&rt, b"\n", b"", b"refused\t1\t1\t17\t0\n", false)
 }
 
 // A carriage return belongs to the field that it ends.
 #[test]
 fn carriage_returns(rt: HostRuntime) -> Result<(), Fail> {
-    let heap = rt.alloc();
     expect(
         &rt,
-        heap,
-        [b"table\t1\t12\r\n", EVENING],
+        b"table\t1\t12\r\n",
+        EVENING,
         b"refused\t1\t3\t16\t0\n",
         false,
     )?;
-    expect(
-        &rt,
-        heap,
-        [EVENING, b"rows\r\nbound\t7\r\n"],
-        b"refused\t3\t1\t17\t0\nrefused\t4\t2\t16\t0\n",
-        false,
-    )
+    let said = b"refused\t3\t1\t17\t0\nrefused\t4\t2\t16\t0\n";
+    expect(&rt, EVENING, b"rows\r\nbound\t7\r\n", said, false)
 }
 
 #[test]
 fn nul_bytes(rt: HostRuntime) -> Result<(), Fail> {
-    let heap = rt.alloc();
-    expect(&rt, heap, [b"\0\0\0"], b"refused\t1\t0\t18\t0\n", false)?;
-    expect(
-        &rt,
-        heap,
-        [EVENING, b"rows\0\nkeep\t\0\n\0\n"],
-        b"refused\t3\t1\t17\t0\nrefused\t4\t2\t16\t0\nrefused\t5\t1\t17\t0\n",
-        false,
-    )
+    expect(&rt, b"\0\0\0", b"", b"refused\t1\t0\t18\t0\n", false)?;
+    let said = b"refused\t3\t1\t17\t0\nrefused\t4\t2\t16\t0\nrefused\t5\t1\t17\t0\n";
+    expect(&rt, EVENING, b"rows\0\nkeep\t\0\n\0\n", said, false)
+}
+
+// A line of these many bytes with its newline: a word and a number that is 0. Behind it stands another line.
+fn long_line(heap: Global, word: &[u8], length: usize) -> Result<Vec<u8>, AllocError> {
+    let mut text = Vec::new(heap);
+    text.extend_from_slice(word)?;
+    for _ in word.len()..length.saturating_sub(1) {
+        text.push(b'0')?;
+    }
+    text.extend_from_slice(b"\nbound\t7\n")?;
+    Ok(text)
 }
 
 // With 4,096 bytes a line is read, with one more it is not. The evening goes on.
 #[test]
 fn longest_line(rt: HostRuntime) -> Result<(), Fail> {
     let heap = rt.alloc();
-    let zeros = [b'0'; 4089];
-    expect(
-        &rt,
-        heap,
-        [EVENING, b"bound\t", &zeros, b"\n", b"rows\n"],
-        b"refused\t3\t0\t13\t0\n",
-        true,
-    )?;
-    expect(
-        &rt,
-        heap,
-        [EVENING, b"bound\t0", &zeros, b"\n", b"bound\t0\n"],
-        b"refused\t3\t0\t18\t0\nrefused\t4\t0\t13\t0\n",
-        false,
-    )?;
-    // and so it does behind one that is as long as a line, but for its newline
-    expect(
-        &rt,
-        heap,
-        [EVENING, b"table\t0", &zeros, b"\n", b"bound\t0\n"],
-        b"refused\t3\t0\t18\t0\nrefused\t4\t0\t13\t0\n",
-        false,
-    )?;
-    expect(
-        &rt,
-        heap,
-        [b"table\t0", &zeros, b"\n", EVENING],
-        b"refused\t1\t0\t18\t0\n",
-        false,
-    )?;
     assert_eq!(rt; LONGEST_LINE, 4096);
-    Ok(())
+    let read = b"refused\t3\t0\t13\t0\nrefused\t4\t0\t13\t0\n";
+    let line = long_line(heap, b"bound\t", 4096)?;
+    expect(&rt, EVENING, &line, read, true)?;
+    let refused = b"refused\t3\t0\t18\t0\nrefused\t4\t0\t13\t0\n";
+    let line = long_line(heap, b"bound\t", 4097)?;
+    expect(&rt, EVENING, &line, refused, false)?;
+    // and so it does where the line begins as a table line
+    let line = long_line(heap, b"table\t1\t", 4097)?;
+    expect(&rt, EVENING, &line, refused, false)?;
+    expect(&rt, &line, EVENING, b"refused\t1\t0\t18\t0\n", false)
 }
 
 #[test]
 fn numbers_at_their_limits(rt: HostRuntime) -> Result<(), Fail> {
-    let heap = rt.alloc();
     expect(
         &rt,
-        heap,
-        [EVENING, b"bound\t4294967295\n"],
+        EVENING,
+        b"bound\t4294967295\n",
         b"refused\t3\t0\t13\t0\n",
         true,
     )?;
     expect(
         &rt,
-        heap,
-        [EVENING, b"bound\t4294967296\n"],
+        EVENING,
+        b"bound\t4294967296\n",
         b"refused\t3\t2\t16\t0\n",
         false,
     )?;
     expect(
         &rt,
-        heap,
-        [EVENING, b"keep\t18446744073709551617\n"],
+        EVENING,
+        b"keep\t18446744073709551617\n",
         b"refused\t3\t2\t16\t0\n",
         false,
     )?;
     expect(
         &rt,
-        heap,
-        [b"table\t255\t0\nclock\t1\t1\nhold", ROW],
+        b"table\t255\t0\nclock\t1\t1\nhold",
+        ROW,
         b"refused\t3\t0\t10\t0\n",
         true,
     )?;
     expect(
         &rt,
-        heap,
-        [b"table\t256\t12\n", EVENING],
+        b"table\t256\t12\n",
+        EVENING,
         b"refused\t1\t2\t16\t0\n",
         false,
     )?;
     expect(
         &rt,
-        heap,
-        [b"table\t0\t13\n", EVENING],
+        b"table\t0\t13\n",
+        EVENING,
         b"refused\t1\t3\t16\t0\n",
         false,
     )?;
     expect(
         &rt,
-        heap,
-        [EVENING, b"table\t256\tx\nrows\n"],
+        EVENING,
+        b"table\t256\tx\nrows\n",
         b"refused\t3\t2\t16\t0\n",
         false,
     )
@@ -279,6 +243,8 @@ fn read_lines(rt: HostRuntime) -> Result<(), Fail> {
     };
     assert_eq!(rt; read_opening(b"table\t255\t12\n"), Ok(opening));
     assert_eq!(rt; read_opening(b"rows\n"), Err(LineFault::Word(1)));
+    // what follows the newline is not looked at
+    assert_eq!(rt; read_opening(b"table\t255\t12\nrows\n"), Ok(opening));
     let read = read_clock_line(b"clock\t3\t2\n").map(|clock| (clock.numerator, clock.denominator));
     assert_eq!(rt; read, Ok((3, 2)));
     let fault = read_clock_line(b"clock\t2\t3\n").err();

@@ -60,7 +60,7 @@ returns-in-End-clause-tells g c =
 
 pub loop-desk-smaller : goal.loop-desk-smaller
 loop-desk-smaller g c =
-    omega (arith, c.in_ok-answer.ensures.same.fewer, rw c.if-branch.true at c.in_ok-read_line.ensures.fewer)
+    omega (arith, c.in_ok-answer.ensures.same.to_come, rw c.if-branch.true at c.in_ok-read_line.ensures.fewer)
 
 pub loop-desk-preserved : goal.loop-desk-preserved
 loop-desk-preserved g c =
@@ -84,7 +84,7 @@ loop-desk-preserved g c =
         tells_more c.args.self.now l n A B C (clock_due c.args.opening) s u before.2
             (tells_line l m n B C s u (rw c.if-branch.true at c.in_ok-read_line.ensures.line) (rw c.if-branch.true at c.in_ok-read_line.ensures.number) c.in_ok-read_line.ensures.well_formed line),
       );
-      fewer = omega (arith, c.in_ok-answer.ensures.same.fewer, rw c.if-branch.true at c.in_ok-read_line.ensures.fewer, c.loop-desk.invariant.fewer);
+      fewer = omega (arith, c.in_ok-answer.ensures.same.to_come, rw c.if-branch.true at c.in_ok-read_line.ensures.fewer, c.loop-desk.invariant.fewer);
     }
 
 pub returns-clause-tells : goal.returns-clause-tells

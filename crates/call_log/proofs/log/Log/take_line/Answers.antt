@@ -11,7 +11,7 @@ returns-then-byte-eq10-clause-line g c xs known =
     let byte = subst (λ o. ByteRead c.loop-byte.self o c.next_byte.new.self) c.in-Some.is c.in_ok-byte.ensures.byte in
     let here = byte before.1 before.2 in
     let items = ap (λ v. v.items) c.in_ok-byte.ensures.same.1 ∙ before.4 in
-    let kept = c.in_ok-keep.ensures ∙ ap (λ l. take 4097 (l ++ c.in-Some.byte ∷ [])) items ∙ kept_on 4097 before.0 c.in-Some.byte in
+    let kept = c.in_ok-push_byte.ensures ∙ ap (λ l. take 4097 (l ++ c.in-Some.byte ∷ [])) items ∙ kept_on 4097 before.0 c.in-Some.byte in
     let whole = before.3 ∙ ap (λ ys. before.0 ++ ys) here.2 in
     (here.0, here.1, inl (at_newline xs before.0 here.0 _ c.in-Some.byte c.if-byte-eq10.true whole kept before.5))
 
@@ -21,7 +21,7 @@ loop-byte-preserved g c =
     let byte = subst (λ o. ByteRead c.loop-byte.self o c.next_byte.new.self) c.in-Some.is c.in_ok-byte.ensures.byte in
     record {
       same = (c.in_ok-byte.ensures.same.0.0 ∙ inv.same.0, c.in_ok-byte.ensures.same.0.1 ∙ inv.same.1);
-      short = omega (arith, ap length c.in_ok-keep.ensures, length-take 4097 (c.next_byte.new.self.line.items ++ c.in-Some.byte ∷ []));
+      short = omega (arith, ap length c.in_ok-push_byte.ensures, length-take 4097 (c.next_byte.new.self.line.items ++ c.in-Some.byte ∷ []));
       fewer = omega (arith, rw c.in-Some.is at c.in_ok-byte.ensures.fewer, inv.fewer);
       taken = λ xs known.
           let before = inv.taken xs known in
@@ -31,7 +31,7 @@ loop-byte-preserved g c =
             here.0,
             here.1,
             before.3 ∙ ap (λ ys. before.0 ++ ys) here.2 ∙ sym (append_assoc before.0 (c.in-Some.byte ∷ []) here.0),
-            c.in_ok-keep.ensures ∙ ap (λ l. take 4097 (l ++ c.in-Some.byte ∷ [])) items ∙ kept_on 4097 before.0 c.in-Some.byte,
+            c.in_ok-push_byte.ensures ∙ ap (λ l. take 4097 (l ++ c.in-Some.byte ∷ [])) items ∙ kept_on 4097 before.0 c.in-Some.byte,
             one_on before.0 c.in-Some.byte c.if-byte-eq10.false before.5,
           );
     }

@@ -1,7 +1,7 @@
 -- A byte is kept while there are 4,096 at most.
 use Rattle.std.proofs.Common.{[], ◌∷◌, ◌++◌, sym, ◌∙◌, arith}
 use Rattle.std.proofs.lemmas.List.{length_push, take_all, take_at}
-use Rattle.call_log.proofs.log.keep.Goals as goal
+use Rattle.call_log.proofs.log.push_byte.Goals as goal
 
 pub returns-in_ok-push : goal.returns-in_ok-push
 returns-in_ok-push c =
