@@ -4,7 +4,7 @@ use Rattle.demand.specs.Demand.{Lawful}
 use Rattle.analysis.specs.declared.Row.{Row}
 use Rattle.analysis.specs.Cover.{interference}
 use Rattle.analysis.specs.Plans.{Window, Bounds}
-use Rattle.analysis.specs.Ranks.{Claim, Load, wait, aboves, at, rows, loads_of, loads, ranked, system, system_of}
+use Rattle.analysis.specs.Ranks.{Claim, Load, wait, aboves, at, rows, loads_of, loads, ranking, system, system_of}
 use Rattle.analysis.specs.Removal.{SomeOf, none, keep, leave, rank_of, RemovalKeepsInTime}
 use Rattle.analysis.proofs.Blocked.{Lighter, lighter, lighter_rank}
 use Rattle.analysis.proofs.Easier as easier
@@ -133,12 +133,12 @@ ranked_still ys lawful R V bounds xs kept =
         (subst (λ (n : ℕ). Bounds (system (loads ys)) n R V) (sym (length_loads (rows ys) ys)) bounds)
         (length xs) (let e = length_loads (rows xs) xs in omega arith)
 
-pub removal_keeps_in_time : (all : List Claim) → AllLawful (ranked all) → RemovalKeepsInTime all
+pub removal_keeps_in_time : (all : List Claim) → AllLawful (ranking all) → RemovalKeepsInTime all
 removal_keeps_in_time all lawful R V bounds distinct rest some =
-    let kept : SomeOf ◌≡◌ (ranked rest) (ranked all) = some_ranked some distinct in
-    let same : length (ranked all) ≡ length all = length_ranked all in
-    let fewer : length (ranked rest) ≡ length rest = length_ranked rest in
-    let left = ranked_still (ranked all) lawful R V (subst (λ (n : ℕ). Bounds (system_of all) n R V) (sym same) bounds) (ranked rest) kept in
+    let kept : SomeOf ◌≡◌ (ranking rest) (ranking all) = some_ranked some distinct in
+    let same : length (ranking all) ≡ length all = length_ranked all in
+    let fewer : length (ranking rest) ≡ length rest = length_ranked rest in
+    let left = ranked_still (ranking all) lawful R V (subst (λ (n : ℕ). Bounds (system_of all) n R V) (sym same) bounds) (ranking rest) kept in
     record {
       kept = kept;
       Q = left.Q;

@@ -10,7 +10,7 @@ use Rattle.analysis.specs.declared.judgement.JudgeRefusal.{JudgeRefusal}
 use Rattle.analysis.specs.Candidates.{claims, claim_of, RanksAll}
 use Rattle.analysis.specs.Judge.{Answered, LateRow, InTime, SomeLate, RanksJudged, Judged, judge_late, answers_of}
 use Rattle.analysis.specs.Plans.{LateExactlyWhenNoPlan}
-use Rattle.analysis.specs.Ranks.{Claim, ranked, loads, rows, system}
+use Rattle.analysis.specs.Ranks.{Claim, ranking, loads, rows, system}
 use Rattle.analysis.specs.Removal.{RemovalKeepsInTime}
 use Rattle.analysis.proofs.Best.{Grows, best_plan, late_no_plan}
 use Rattle.analysis.proofs.Lawful.{AllLawful, grows, lawful_loads}
@@ -23,14 +23,14 @@ module _ {K : Type 0} (demand : K → Demand) (lawful : (k : K) → Lawful (dema
   abbrev judged : List Claim
   judged = claims demand places newcomer
 
-  all_lawful : AllLawful (ranked judged)
+  all_lawful : AllLawful (ranking judged)
   all_lawful = ranked_lawful demand lawful (places ++ newcomer ∷ [])
 
-  needs_grow : Grows (system (loads (ranked judged)))
-  needs_grow = grows (loads (ranked judged)) (lawful_loads (rows (ranked judged)) (ranked judged) all_lawful)
+  needs_grow : Grows (system (loads (ranking judged)))
+  needs_grow = grows (loads (ranking judged)) (lawful_loads (rows (ranking judged)) (ranking judged) all_lawful)
 
-  pub late_exactly_when_no_plan : LateExactlyWhenNoPlan (system (loads (ranked judged)))
-  late_exactly_when_no_plan = settled.late_exactly_when_no_plan (system (loads (ranked judged))) needs_grow
+  pub late_exactly_when_no_plan : LateExactlyWhenNoPlan (system (loads (ranking judged)))
+  late_exactly_when_no_plan = settled.late_exactly_when_no_plan (system (loads (ranking judged))) needs_grow
 
   pub removal : RemovalKeepsInTime judged
   removal = removal_keeps_in_time judged all_lawful
@@ -43,13 +43,13 @@ module _ {K : Type 0} (demand : K → Demand) (lawful : (k : K) → Lawful (dema
 
     pub in_time : (answers : List Answer) → Answered (loads (map (claim_of demand places newcomer) ranks)) answers → InTime judged answers
     in_time answers a =
-        let answered : Answered (loads (ranked judged)) answers = subst (λ (cs : List Claim). Answered (loads cs) answers) all a in
-        record { few = few; answered = answered; best_plan = best_plan (system (loads (ranked judged))) needs_grow _ _ answered.bounds }
+        let answered : Answered (loads (ranking judged)) answers = subst (λ (cs : List Claim). Answered (loads cs) answers) all a in
+        record { few = few; answered = answered; best_plan = best_plan (system (loads (ranking judged))) needs_grow _ _ answered.bounds }
 
     pub some_late : (n : ℕ) → LateRow (loads (map (claim_of demand places newcomer) ranks)) n → SomeLate judged n
     some_late n l =
-        let first : LateRow (loads (ranked judged)) n = subst (λ (cs : List Claim). LateRow (loads cs) n) all l in
-        record { few = few; first = first; no_plan = late_no_plan (system (loads (ranked judged))) needs_grow first.0 first.1 }
+        let first : LateRow (loads (ranking judged)) n = subst (λ (cs : List Claim). LateRow (loads cs) n) all l in
+        record { few = few; first = first; no_plan = late_no_plan (system (loads (ranking judged))) needs_grow first.0 first.1 }
 
     -- what is answered for the ranks is the judgement
     pub verdict : (r : Result Answers JudgeRefusal) → RanksJudged (map (claim_of demand places newcomer) ranks) r → Judged judged r

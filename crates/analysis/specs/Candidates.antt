@@ -4,12 +4,13 @@
 use Rattle.std.specs.Prelude.{◌≡◌, ℕ, ◌+◌, cond, List, [], ◌∷◌, ◌++◌, map, length, Some, None, Option, nat_lt, slice_index_or}
 use Rattle.std.specs.Borrow.{Bor}
 use Rattle.demand.specs.Demand.{Demand}
+use Rattle.analysis.specs.declared.Row.{Row}
 use Rattle.analysis.specs.declared.Task.{Task}
 use Rattle.analysis.specs.declared.higher.Higher.{Higher}
 use Rattle.analysis.specs.declared.Rank.{Rank}
 use Rattle.analysis.specs.Places.{priority_of}
 use Rattle.analysis.specs.Cover.{Above, interference}
-use Rattle.analysis.specs.Ranks.{Claim, rank_in, ranked}
+use Rattle.analysis.specs.Ranks.{Claim, rank_in, ranking}
 
 -- a place without a task needs nothing
 abbrev pub idle : Demand
@@ -38,6 +39,10 @@ module _ {K : Type 0} where
   abbrev pub need_with : (K → Demand) → List (Higher K) → ℕ → ℕ → ℕ → ℕ
   need_with demand higher alone v t = alone + interference (map (above_of demand) higher) v t
 
+  -- a row with the meaning of its kind
+  abbrev pub claim_with : (K → Demand) → Row → K → Claim
+  claim_with demand row kind = record { row = row; demand = demand kind }
+
   -- the rows of these tasks, with the meanings of their kinds
   abbrev pub claims_of : (K → Demand) → List (Option (Task K)) → List Claim
   claims_of demand [] = []
@@ -59,4 +64,4 @@ module _ {K : Type 0} where
 
   -- these ranks have all that are judged together, highest first
   abbrev pub RanksAll : (K → Demand) → List (Option (Task K)) → Option (Task K) → List Rank → Type 0
-  RanksAll demand places newcomer ranks = map (claim_of demand places newcomer) ranks ≡ ranked (claims demand places newcomer)
+  RanksAll demand places newcomer ranks = map (claim_of demand places newcomer) ranks ≡ ranking (claims demand places newcomer)

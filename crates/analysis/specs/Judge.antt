@@ -12,7 +12,7 @@ use Rattle.analysis.specs.declared.Rank.{Rank}
 use Rattle.analysis.specs.declared.Task.{Task}
 use Rattle.analysis.specs.Candidates.{candidate, demand_of, kind_demand, need_with}
 use Rattle.analysis.specs.Plans.{LeastCover, NoCover, Bounds, FirstLate, NoPlan, BestPlan}
-use Rattle.analysis.specs.Ranks.{Claim, Load, at, ranked, loads, system, system_of}
+use Rattle.analysis.specs.Ranks.{Claim, Load, at, ranking, loads, system, system_of}
 
 module _ {K : Type 0} (demand : K → Demand) (places : List (Option (Task K))) (newcomer : Option (Task K)) where
   -- the demand of the task at a rank's place
@@ -57,6 +57,10 @@ pub record Answered (ls : List Load) (answers : List Answer) : Type 0 where
   pub rows : (k : ℕ) → k < length ls → RowAnswered (at ls k) (slice_index_or answers k no_answer)
   pub bounds : Bounds (system ls) (length ls) (bounds_of answers) (vectors_of answers)
 
+-- these rows, given in any order, have their answers, highest priority first
+abbrev pub RowsAnswered : List Claim → List Answer → Type 0
+RowsAnswered cs answers = Answered (loads (ranking cs)) answers
+
 -- the answers in a value of the code: the first so many of its array
 abbrev pub answers_of : Answers → List Answer
 answers_of a = take a.count a.rows
@@ -68,13 +72,13 @@ LateRow ls n = (k : ℕ) × FirstLate (system ls) k × (n ≡ (at ls k).claim.ro
 -- All rows are in time: each has its bound and vector, and together the vectors are the best plan.
 pub record InTime (cs : List Claim) (answers : List Answer) : Type 0 where
   pub few : length cs ≤ 12
-  pub answered : Answered (loads (ranked cs)) answers
+  pub answered : Answered (loads (ranking cs)) answers
   pub best_plan : BestPlan (system_of cs) (bounds_of answers) (vectors_of answers)
 
 -- Some row is late, n is the first of them, and no plan brings all in time.
 pub record SomeLate (cs : List Claim) (n : ℕ) : Type 0 where
   pub few : length cs ≤ 12
-  pub first : LateRow (loads (ranked cs)) n
+  pub first : LateRow (loads (ranking cs)) n
   pub no_plan : NoPlan (system_of cs)
 
 -- the number of a refusal: there is no place for so many rows, or some row is late

@@ -2,7 +2,7 @@
 -- How to read it: `SomeOf E xs ys` says that xs are some of ys. The law is `RemovalKeepsInTime`, at the end.
 use Rattle.std.specs.Prelude.{◌≡◌, ℕ, zero, suc, ◌<◌, ◌≤◌, List, [], ◌∷◌, length}
 use Rattle.analysis.specs.Plans.{Bounds}
-use Rattle.analysis.specs.Ranks.{Claim, ranked, system_of, DistinctPriorities}
+use Rattle.analysis.specs.Ranks.{Claim, ranking, system_of, DistinctPriorities}
 
 -- the list xs has some of the members of ys, in the same order, each as E says
 pub data SomeOf {A B : Type 0} (E : A → B → Type 0) : List A → List B → Type 0 where
@@ -20,7 +20,7 @@ rank_of (leave s) k = suc (rank_of s k)
 -- The rows `rest` are in time. Their ranking has them as they stood in that of the rows `all`, and none has a larger bound
 -- than R was there.
 pub record InTimeStill (rest all : List Claim) (R : ℕ → ℕ) : Type 0 where
-  pub kept : SomeOf ◌≡◌ (ranked rest) (ranked all)
+  pub kept : SomeOf ◌≡◌ (ranking rest) (ranking all)
   pub Q : ℕ → ℕ
   pub W : ℕ → ℕ
   pub bounds : Bounds (system_of rest) (length rest) Q W

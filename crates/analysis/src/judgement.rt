@@ -3,7 +3,7 @@ ghost use Rattle.std.specs.Prelude.{◌≡◌, ◌+◌, ◌^◌, ◌≤◌, map,
 ghost use Rattle.analysis.specs.Candidates.{claim_of, claims, kind_demand};
 ghost use Rattle.analysis.specs.Judge.{RankJudged, judge_number, RanksJudged, Judged};
 ghost use Rattle.analysis.specs.Plans.{LateExactlyWhenNoPlan};
-ghost use Rattle.analysis.specs.Ranks.{ranked, system_of, AnyOrder, HighestFirst};
+ghost use Rattle.analysis.specs.Ranks.{ranking, system_of, AnyOrder, HighestFirst};
 ghost use Rattle.analysis.specs.Removal.{RemovalKeepsInTime};
 
 use super::answers::Answers;
@@ -102,7 +102,7 @@ pub fn judge<K: Kind>(
     ensures late_exactly_when_no_plan { LateExactlyWhenNoPlan (system_of (claims K.demand places.now newcomer.now)) }
     ensures removal_keeps_in_time { RemovalKeepsInTime (claims K.demand places.now newcomer.now) }
     ensures any_order { AnyOrder (claims K.demand places.now newcomer.now) }
-    ensures highest_first { HighestFirst (claims K.demand places.now newcomer.now) (ranked (claims K.demand places.now newcomer.now)) }
+    ensures highest_first { HighestFirst (claims K.demand places.now newcomer.now) (ranking (claims K.demand places.now newcomer.now)) }
 {
     let candidates = Candidates { places, newcomer };
     let ranks = candidates.ranks()?;

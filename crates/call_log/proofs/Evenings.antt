@@ -4,10 +4,10 @@ use Rattle.std.proofs.lemmas.List.{length-take}
 use Rattle.std.proofs.Math.Logic.{∥∥₁_map}
 use Rattle.analysis.specs.declared.Answer.{Answer}
 use Rattle.analysis.specs.Judge.{Answered}
-use Rattle.analysis.specs.Ranks.{loads, ranked}
-use Rattle.demand.specs.declared.jitter.Delayed.{Delayed}
-use Rattle.demand.specs.declared.speed.Factor.{Factor}
-use Rattle.demand.specs.declared.speed.Slowed.{Slowed}
+use Rattle.analysis.specs.Ranks.{loads, ranking}
+use Rattle.demand.specs.declared.delayed.Delayed.{Delayed}
+use Rattle.demand.specs.declared.factor.Factor.{Factor}
+use Rattle.demand.specs.declared.slowed.Slowed.{Slowed}
 use Rattle.table.specs.declared.Table.{Table}
 use Rattle.table.specs.Account.{Account, fresh}
 use Rattle.table.specs.Agreement.{AgreesWith}
@@ -45,7 +45,7 @@ module _ (clock : Factor) (k : ℕ) (text : List ℕ) (es : List Event) (t u : T
       )
 
   -- all rows were told
-  pub rows_say : (said : List ℕ) → HasHistory row_demand es t → ((a : Account) → AgreesWith row_demand a t → (all : List Answer) × Answered (loads (ranked a.rows)) all × (said ≡ rows_text a all)) → RequestSays clock (account_of es t) k text Rows (says said (evening clock (account_of es t)))
+  pub rows_say : (said : List ℕ) → HasHistory row_demand es t → ((a : Account) → AgreesWith row_demand a t → (all : List Answer) × Answered (loads (ranking a.rows)) all × (said ≡ rows_text a all)) → RequestSays clock (account_of es t) k text Rows (says said (evening clock (account_of es t)))
   rows_say said known told =
       ∥∥₁_map known (λ h. let all = told (account_of es t) h.agrees in (all.0, all.1, ap (λ s. says s (evening clock (account_of es t))) all.2))
 

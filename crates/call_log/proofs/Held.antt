@@ -3,8 +3,8 @@ use Rattle.std.proofs.Common.{◌≡◌, ℕ, true, false, List, [], ◌∷◌, 
 use Rattle.std.proofs.lemmas.Bool.{false_from_ne_true}
 use Rattle.std.proofs.lemmas.Bool.Decides.{nat_tests}
 use Rattle.analysis.specs.Ranks.{Claim}
-use Rattle.table.specs.declared.State.{State}
-use Rattle.table.specs.declared.State.TheVariants.{Free, Held, Kept}
+use Rattle.table.specs.declared.state.State.{State}
+use Rattle.table.specs.declared.state.State.TheVariants.{Free, Held, Kept}
 use Rattle.table.specs.Account.{Account, Bears, has_number, held}
 use Rattle.table.specs.Agreement.{OwnHolds, Sound, StateOf}
 

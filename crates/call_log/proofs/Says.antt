@@ -1,6 +1,6 @@
 -- What comes of a line, by what reading it answers. Assumes nothing.
 use Rattle.std.proofs.Common.{◌≡◌, ℕ, List, [], Ok, Err, Result, ap, subst, inr}
-use Rattle.demand.specs.declared.speed.Factor.{Factor}
+use Rattle.demand.specs.declared.factor.Factor.{Factor}
 use Rattle.table.specs.Account.{Account, fresh}
 use Rattle.planfile.specs.declared.fault.LineFault.{LineFault}
 use Rattle.planfile.specs.declared.request.Opening.{Opening}

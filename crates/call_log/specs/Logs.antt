@@ -3,10 +3,10 @@
 -- but the last is a line, and the last is empty where the log ends with a newline. k is the number of a line, counted from 1. A `Turn` is what
 -- comes of one: what is said, whether the line was well formed, and where the log stands then.
 use Rattle.std.specs.Prelude.{◌≡◌, ◌≢◌, ℕ, ◌+◌, Bool, true, false, ◌&&◌, ◌⊎◌, List, [], ◌∷◌, ◌++◌, Some}
-use Rattle.demand.specs.declared.speed.Factor.{Factor}
+use Rattle.demand.specs.declared.factor.Factor.{Factor}
 use Rattle.analysis.specs.declared.Answer.{Answer}
 use Rattle.analysis.specs.Judge.{Answered}
-use Rattle.analysis.specs.Ranks.{loads, ranked}
+use Rattle.analysis.specs.Ranks.{loads, ranking}
 use Rattle.table.specs.Account.{Account, fresh, held}
 use Rattle.table.specs.Runs.{Event, Step, after}
 use Rattle.runs.specs.declared.call.Reply.{Reply}
@@ -69,7 +69,7 @@ RequestSays clock a k text (Call c) turn =
     × (turn ≡ says (response_line (response_of k (call_row c) r)) (evening clock (after a e)))
 -- all rows are told, highest first, with what is answered for them
 RequestSays clock a k text Rows turn =
-    ∥ ((all : List Answer) × Answered (loads (ranked a.rows)) all × (turn ≡ says (rows_text a all) (evening clock a))) ∥₁
+    ∥ ((all : List Answer) × Answered (loads (ranking a.rows)) all × (turn ≡ says (rows_text a all) (evening clock a))) ∥₁
 
 -- What comes of line k, which is this text with its newline.
 abbrev pub LineSays : Stage → ℕ → List ℕ → Turn → Type 0

@@ -9,7 +9,7 @@ use Rattle.call_log.specs.declared.answering.Next.TheVariants.{Line, Table, End}
 use Rattle.call_log.specs.declared.log.Log.{Log}
 use Rattle.call_log.specs.Counting.{to_come}
 use Rattle.call_log.specs.Logs.{Stage, clock_due, evening, over, Turn, LineSays, LogSays}
-use Rattle.demand.specs.declared.speed.Factor.{Factor}
+use Rattle.demand.specs.declared.factor.Factor.{Factor}
 use Rattle.table.specs.Account.{Account, fresh}
 use Rattle.planfile.specs.declared.request.Opening.{Opening}
 use Rattle.planfile.specs.Text.{newline, parted_by}

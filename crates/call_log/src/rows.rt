@@ -3,7 +3,7 @@ ghost use Rattle.std.specs.Prelude.{◌≡◌, ℕ, ◌++◌, List, OnOk, string
 ghost use Rattle.std.specs.Io.KnownBytes.{Appends};
 ghost use Rattle.analysis.specs.declared.Answer.{Answer as Row};
 ghost use Rattle.analysis.specs.Judge.{Answered};
-ghost use Rattle.analysis.specs.Ranks.{loads, ranked};
+ghost use Rattle.analysis.specs.Ranks.{loads, ranking};
 ghost use Rattle.table.specs.Account.{Account, held};
 ghost use Rattle.table.specs.Agreement.{AgreesWith};
 ghost use Rattle.runs.specs.Desk.{table_of};
@@ -50,7 +50,7 @@ pub(crate) fn tell_rows<W: Write>(
     ensures { OnOk result ((said : List ℕ)
         × Appends (W.contents out.old) (W.contents out.new) said
         × ((a : Account) → AgreesWith row_demand a (table_of desk.now)
-        → (all : List Row) × Answered (loads (ranked a.rows)) all
+        → (all : List Row) × Answered (loads (ranking a.rows)) all
         × (said ≡ rows_text a all))) }
 {
     let answers = desk.answers();

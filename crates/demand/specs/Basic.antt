@@ -2,17 +2,17 @@
 -- How to read it: c is the length of a job and h that of a heavy one, m how many jobs in a row have one heavy job among them, t the spacing.
 -- The numbers may be any; `one_heavy` alone is for numbers in their ranges. What ends in `_demand` is the same of a value of the code.
 use Rattle.std.specs.Prelude.{ℕ, zero, suc, ◌+◌, ◌-◌, ◌*◌, ◌%◌, max, cond, ◌==◌}
-use Rattle.demand.specs.Demand.{Demand, capped, within, divided_up}
-use Rattle.demand.specs.declared.periodic.Every.{Every}
-use Rattle.demand.specs.declared.pattern.Heavy.{Heavy}
+use Rattle.demand.specs.Demand.{Demand, up_to_cap, nearest_in, div_up}
+use Rattle.demand.specs.declared.every.Every.{Every}
+use Rattle.demand.specs.declared.heavy.Heavy.{Heavy}
 
 -- a job's length out of 1 to 1,000,000 counts as the nearest
 abbrev pub length_of_job : ℕ → ℕ
-length_of_job = within 1 1_000_000
+length_of_job = nearest_in 1 1_000_000
 
 -- a spacing out of 1 to 1,000,000 counts as the nearest
 abbrev pub length_of_spacing : ℕ → ℕ
-length_of_spacing = within 1 1_000_000
+length_of_spacing = nearest_in 1 1_000_000
 
 -- a heavy job counts as at least as long as another
 abbrev pub length_of_heavy : ℕ → ℕ → ℕ
@@ -20,7 +20,7 @@ length_of_heavy c h = max (length_of_job h) (length_of_job c)
 
 -- how many consecutive jobs have one heavy job among them: 2 to 64
 abbrev pub length_of_pattern : ℕ → ℕ
-length_of_pattern = within 2 64
+length_of_pattern = nearest_in 2 64
 
 -- every job takes C, and jobs are T apart
 abbrev pub every : ℕ → ℕ → Demand
@@ -28,7 +28,7 @@ every c t = record {
   spacing = length_of_spacing t;
   own = length_of_job c;
   least = length_of_job c;
-  work = λ w. capped (divided_up w (length_of_spacing t) * length_of_job c);
+  work = λ w. up_to_cap (div_up w (length_of_spacing t) * length_of_job c);
 }
 
 -- what a value of the code means
@@ -55,7 +55,7 @@ largest_total c h m n = largest_before c h m n m
 
 -- the total of n consecutive jobs that begin with a heavy one: C for each, and H - C more for each heavy one
 abbrev pub from_heavy : ℕ → ℕ → ℕ → ℕ → ℕ
-from_heavy c h m n = n * c + divided_up n m * (h - c)
+from_heavy c h m n = n * c + div_up n m * (h - c)
 
 -- in every stretch of m jobs there is one of length H among jobs of length C, and jobs are T apart
 abbrev pub one_heavy : ℕ → ℕ → ℕ → ℕ → Demand
@@ -63,7 +63,7 @@ one_heavy c h m t = record {
   spacing = t;
   own = h;
   least = c;
-  work = λ w. capped (largest_total c h m (divided_up w t));
+  work = λ w. up_to_cap (largest_total c h m (div_up w t));
 }
 
 -- the same at any numbers, each counting as the nearest in its range

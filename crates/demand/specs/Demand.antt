@@ -11,20 +11,20 @@ abbrev pub widest : ℕ
 widest = 4_294_967_295
 
 -- a number above the cap is answered as the cap
-abbrev pub capped : ℕ → ℕ
-capped n = min n cap
+abbrev pub up_to_cap : ℕ → ℕ
+up_to_cap n = min n cap
 
 -- a window beyond the largest counts as the largest
 abbrev pub window : ℕ → ℕ
 window w = min w widest
 
 -- a number outside a range counts as the nearest in it
-abbrev pub within : ℕ → ℕ → ℕ → ℕ
-within low high n = min (max n low) high
+abbrev pub nearest_in : ℕ → ℕ → ℕ → ℕ
+nearest_in low high n = min (max n low) high
 
 -- n / d rounded up, for d of 1 or more
-abbrev pub divided_up : ℕ → ℕ → ℕ
-divided_up n d = (n + (d - 1)) / d
+abbrev pub div_up : ℕ → ℕ → ℕ
+div_up n d = (n + (d - 1)) / d
 
 -- What the jobs of a task can ask of the processor: the least time from one job to the next, the longest job,
 -- the shortest job, and the most work that falls into a window.

@@ -2,7 +2,7 @@
 -- How to read it: each line has the figures that the comment above it tells.
 use Rattle.std.specs.Prelude.{◌≡◌}
 use Rattle.demand.specs.Basic.{every, heavy}
-use Rattle.demand.specs.Made.{delayed, slowed}
+use Rattle.demand.specs.Made.{delayed_by, slowed_by}
 
 -- what each kind comes to at small numbers
 abbrev pub KindFigures : Type 0
@@ -12,6 +12,6 @@ KindFigures =
     -- one job of 5 among each 3, the others of 2: the most of one, three and four jobs
     × ((heavy 2 5 3 10).work 1 ≡ 5) × ((heavy 2 5 3 10).work 21 ≡ 9) × ((heavy 2 5 3 10).work 31 ≡ 14)
     -- jobs that come up to 4 late: the second job is in a window of 7
-    × ((delayed 4 (every 2 10)).spacing ≡ 6) × ((delayed 4 (every 2 10)).work 6 ≡ 2) × ((delayed 4 (every 2 10)).work 7 ≡ 4)
+    × ((delayed_by 4 (every 2 10)).spacing ≡ 6) × ((delayed_by 4 (every 2 10)).work 6 ≡ 2) × ((delayed_by 4 (every 2 10)).work 7 ≡ 4)
     -- jobs of 3 at 3 / 2 of the time: at most 5, at least 4, and two of them 9
-    × ((slowed 3 2 (every 3 10)).own ≡ 5) × ((slowed 3 2 (every 3 10)).least ≡ 4) × ((slowed 3 2 (every 3 10)).work 11 ≡ 9)
+    × ((slowed_by 3 2 (every 3 10)).own ≡ 5) × ((slowed_by 3 2 (every 3 10)).least ≡ 4) × ((slowed_by 3 2 (every 3 10)).work 11 ≡ 9)

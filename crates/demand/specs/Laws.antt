@@ -3,9 +3,9 @@
 use Rattle.std.specs.Prelude.{ℕ, ◌+◌, ◌-◌, ◌*◌, ◌<◌, ◌≤◌}
 use Rattle.std.proofs.Common.{arith}
 use Rattle.std.proofs.lemmas.Nat.{mul-le, le-div}
-use Rattle.demand.specs.Demand.{Demand, Lawful, window, divided_up}
+use Rattle.demand.specs.Demand.{Demand, Lawful, window, div_up}
 use Rattle.demand.specs.Basic.{every, heavy, one_heavy, length_of_job, length_of_heavy, length_of_pattern, length_of_spacing}
-use Rattle.demand.specs.Made.{either_demand, delayed, delay_of, longer, slowed, times_up, numerator_of, denominator_of}
+use Rattle.demand.specs.Made.{either_demand, delayed_by, delay_of, longer_by, slowed_by, times_up, numerator_of, denominator_of}
 use Rattle.either.specs.declared.Either.{Either}
 use Rattle.either.specs.declared.Either.TheVariants.{Left, Right}
 use Rattle.demand.specs.Rounding.{up_is, up_never_falls, up_positive}
@@ -21,11 +21,11 @@ every_lawful c t = record {
   spacing_limited = omega arith;
   work_never_falls = λ v w le _.
       let rise = up_never_falls v w (length_of_spacing t) (omega arith) le in
-      omega (arith, mul-le (divided_up v (length_of_spacing t)) (length_of_job c) (divided_up w (length_of_spacing t)) (length_of_job c) rise (omega arith));
+      omega (arith, mul-le (div_up v (length_of_spacing t)) (length_of_job c) (div_up w (length_of_spacing t)) (length_of_job c) rise (omega arith));
   work_within_cap = λ w _. omega arith;
   work_covers_own = λ w some _.
       let jobs = up_positive w (length_of_spacing t) (omega arith) some in
-      omega (arith, mul-le 1 (length_of_job c) (divided_up w (length_of_spacing t)) (length_of_job c) jobs (omega arith));
+      omega (arith, mul-le 1 (length_of_job c) (div_up w (length_of_spacing t)) (length_of_job c) jobs (omega arith));
 }
 
 -- for numbers in their ranges
@@ -40,19 +40,19 @@ one_heavy_lawful c h m t c_pos less h_top m_pos t_pos t_top = record {
       let rise = up_never_falls v w t t_pos le in
       omega (
         arith,
-        largest_is c h m less m_pos (divided_up v t),
-        largest_is c h m less m_pos (divided_up w t),
-        mul-le (divided_up v t) c (divided_up w t) c rise (omega arith),
-        mul-le (divided_up (divided_up v t) m) (h - c) (divided_up (divided_up w t) m) (h - c) (up_never_falls (divided_up v t) (divided_up w t) m m_pos rise) (omega arith),
+        largest_is c h m less m_pos (div_up v t),
+        largest_is c h m less m_pos (div_up w t),
+        mul-le (div_up v t) c (div_up w t) c rise (omega arith),
+        mul-le (div_up (div_up v t) m) (h - c) (div_up (div_up w t) m) (h - c) (up_never_falls (div_up v t) (div_up w t) m m_pos rise) (omega arith),
       );
   work_within_cap = λ w _. omega arith;
   work_covers_own = λ w some _.
       let jobs = up_positive w t t_pos some in
       omega (
         arith,
-        largest_is c h m less m_pos (divided_up w t),
-        mul-le 1 c (divided_up w t) c jobs (omega arith),
-        mul-le 1 (h - c) (divided_up (divided_up w t) m) (h - c) (up_positive (divided_up w t) m m_pos jobs) (omega arith),
+        largest_is c h m less m_pos (div_up w t),
+        mul-le 1 c (div_up w t) c jobs (omega arith),
+        mul-le 1 (h - c) (div_up (div_up w t) m) (h - c) (up_positive (div_up w t) m m_pos jobs) (omega arith),
       );
 }
 
@@ -67,7 +67,7 @@ times_up_never_falls a b m n b_pos le =
     omega (arith, up_never_falls (m * a) (n * a) b b_pos (mul-le m a n a le (omega arith)))
 
 -- a kind whose jobs take a / b times as long keeps the laws of the kind, where a / b is at least 1
-pub longer_lawful : (a b : ℕ) (d : Demand) → 1 ≤ b → b ≤ a → Lawful d → Lawful (longer a b d)
+pub longer_lawful : (a b : ℕ) (d : Demand) → 1 ≤ b → b ≤ a → Lawful d → Lawful (longer_by a b d)
 longer_lawful a b d b_pos slower law = record {
   least_positive = omega (arith, le-div 1 (d.least * a) b b_pos (omega (arith, mul-le 1 b d.least a law.least_positive slower)));
   least_within_own = omega (arith, up_is (d.least * a) b b_pos, times_up_never_falls a b d.least d.own b_pos law.least_within_own);
@@ -80,11 +80,11 @@ longer_lawful a b d b_pos slower law = record {
 }
 
 -- the same for any a and b, since those that are used come to at least 1
-pub slowed_lawful : (a b : ℕ) (d : Demand) → Lawful d → Lawful (slowed a b d)
+pub slowed_lawful : (a b : ℕ) (d : Demand) → Lawful d → Lawful (slowed_by a b d)
 slowed_lawful a b d = longer_lawful (numerator_of a b) (denominator_of b) d (omega arith) (omega arith)
 
 -- a kind that comes late keeps the laws of the kind
-pub delayed_lawful : (j : ℕ) (d : Demand) → Lawful d → Lawful (delayed j d)
+pub delayed_lawful : (j : ℕ) (d : Demand) → Lawful d → Lawful (delayed_by j d)
 delayed_lawful j d law = record {
   least_positive = law.least_positive;
   least_within_own = law.least_within_own;

@@ -2,11 +2,11 @@
 -- How to read it: d is what the kind below means, j the delay, a / b the factor. What ends in `_demand` is the same of a value of the code, and
 -- is given what values of the kinds below mean.
 use Rattle.std.specs.Prelude.{ℕ, ◌+◌, ◌-◌, ◌*◌, ◌/◌, min, max}
-use Rattle.demand.specs.Demand.{Demand, capped, window, within, divided_up}
-use Rattle.demand.specs.declared.jitter.Delayed.{Delayed}
+use Rattle.demand.specs.Demand.{Demand, up_to_cap, window, nearest_in, div_up}
+use Rattle.demand.specs.declared.delayed.Delayed.{Delayed}
 use Rattle.either.specs.declared.Either.{Either}
 use Rattle.either.specs.declared.Either.TheVariants.{Left, Right}
-use Rattle.demand.specs.declared.speed.Slowed.{Slowed}
+use Rattle.demand.specs.declared.slowed.Slowed.{Slowed}
 
 -- the one kind or the other means what the kind that it holds means
 abbrev pub either_demand : {A B : Type 0} → (A → Demand) → (B → Demand) → Either A B → Demand
@@ -18,8 +18,8 @@ abbrev pub delay_of : ℕ → Demand → ℕ
 delay_of j d = min j (d.spacing - 1)
 
 -- each job may come late by up to J: two can be closer by J, and a window can have the jobs of one wider by J
-abbrev pub delayed : ℕ → Demand → Demand
-delayed j d = record {
+abbrev pub delayed_by : ℕ → Demand → Demand
+delayed_by j d = record {
   spacing = d.spacing - delay_of j d;
   own = d.own;
   least = d.least;
@@ -28,27 +28,27 @@ delayed j d = record {
 
 -- what a value of the code means, over what its kind means
 abbrev pub delayed_demand : {K : Type 0} → (K → Demand) → Delayed K → Demand
-delayed_demand below k = delayed k.delay (below k.kind)
+delayed_demand below k = delayed_by k.delay (below k.kind)
 
 -- the b of a factor a / b counts as one from 1 to 1,000
 abbrev pub denominator_of : ℕ → ℕ
-denominator_of = within 1 1_000
+denominator_of = nearest_in 1 1_000
 
 -- the a of a factor a / b counts as one from 1 to 1,000, and as at least b
 abbrev pub numerator_of : ℕ → ℕ → ℕ
-numerator_of a b = max (within 1 1_000 a) (denominator_of b)
+numerator_of a b = max (nearest_in 1 1_000 a) (denominator_of b)
 
 -- n times a / b, rounded up
 abbrev pub times_up : ℕ → ℕ → ℕ → ℕ
-times_up a b n = capped (divided_up (n * a) b)
+times_up a b n = up_to_cap (div_up (n * a) b)
 
 -- n times a / b, rounded down
 abbrev pub times_down : ℕ → ℕ → ℕ → ℕ
-times_down a b n = capped (n * a / b)
+times_down a b n = up_to_cap (n * a / b)
 
 -- each job takes a / b times as long
-abbrev pub longer : ℕ → ℕ → Demand → Demand
-longer a b d = record {
+abbrev pub longer_by : ℕ → ℕ → Demand → Demand
+longer_by a b d = record {
   spacing = d.spacing;
   own = times_up a b d.own;
   least = times_down a b d.least;
@@ -56,9 +56,9 @@ longer a b d = record {
 }
 
 -- the same at any factor, its parts counting as ones in their range
-abbrev pub slowed : ℕ → ℕ → Demand → Demand
-slowed a b = longer (numerator_of a b) (denominator_of b)
+abbrev pub slowed_by : ℕ → ℕ → Demand → Demand
+slowed_by a b = longer_by (numerator_of a b) (denominator_of b)
 
 -- what a value of the code means, over what its kind means
 abbrev pub slowed_demand : {K : Type 0} → (K → Demand) → Slowed K → Demand
-slowed_demand below k = slowed k.factor.numerator k.factor.denominator (below k.kind)
+slowed_demand below k = slowed_by k.factor.numerator k.factor.denominator (below k.kind)

@@ -23,21 +23,21 @@ first [] = 0
 first (check ∷ checks) = cond check.0 check.1 (first checks)
 
 -- n is not one from low to high
-abbrev pub outside : ℕ → ℕ → ℕ → Bool
-outside low high n = not (nat_le low n && nat_le n high)
+abbrev pub is_outside : ℕ → ℕ → ℕ → Bool
+is_outside low high n = not (nat_le low n && nat_le n high)
 
 -- n can be neither a job's length nor a spacing
-abbrev pub no_length : ℕ → Bool
-no_length = outside 1 1_000_000
+abbrev pub is_no_length : ℕ → Bool
+is_no_length = is_outside 1 1_000_000
 
 -- C is no length; T is none
 abbrev pub every_checks : ℕ → ℕ → List (Bool × ℕ)
-every_checks c t = (no_length c, refusal_number Job) ∷ (no_length t, refusal_number Period) ∷ []
+every_checks c t = (is_no_length c, refusal_number Job) ∷ (is_no_length t, refusal_number Period) ∷ []
 
 -- C or H is no length, or H is below C; T is no length, or m is not one from 2 to 64
 abbrev pub heavy_checks : ℕ → ℕ → ℕ → ℕ → List (Bool × ℕ)
 heavy_checks c h m t =
-    (no_length c || (no_length h || nat_lt h c), refusal_number Job) ∷ (no_length t || outside 2 64 m, refusal_number Period) ∷ []
+    (is_no_length c || (is_no_length h || nat_lt h c), refusal_number Job) ∷ (is_no_length t || is_outside 2 64 m, refusal_number Period) ∷ []
 
 -- the delay is not below the spacing
 abbrev pub delayed_checks : ℕ → Demand → List (Bool × ℕ)

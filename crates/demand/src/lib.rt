@@ -2,24 +2,26 @@
 #![tactic(auto)]
 
 ghost use Rattle.std.specs.Prelude.{◌≡◌, ◌<◌, ◌≤◌, true, not};
-ghost use Rattle.demand.specs.Demand.{Demand, Lawful, capped, divided_up};
+ghost use Rattle.demand.specs.Demand.{Demand, Lawful, up_to_cap, div_up};
 ghost use Rattle.demand.specs.Figures.{KindFigures};
-ghost use Rattle.demand.specs.Refusals.{no_length, refusal_number};
+ghost use Rattle.demand.specs.Refusals.{is_no_length, refusal_number};
 
-pub mod choice;
-pub mod jitter;
-pub mod pattern;
-pub mod periodic;
-pub mod speed;
+mod choice;
+mod delayed;
+mod every;
+mod factor;
+mod heavy;
+mod slowed;
 #[cfg(test)]
 mod tests;
 
 pub use choice::Either;
+pub use delayed::Delayed;
 pub use either::{Left, Right};
-pub use jitter::Delayed;
-pub use pattern::Heavy;
-pub use periodic::Every;
-pub use speed::{Factor, Slowed};
+pub use every::Every;
+pub use factor::Factor;
+pub use heavy::Heavy;
+pub use slowed::Slowed;
 
 // The longest job and the most work that is ever answered.
 pub const CAP: u32 = 2_000_000;
@@ -74,22 +76,22 @@ impl KindRefusal {
 
 // Whether n can be given for the length of a job or for a spacing.
 fn is_length(n: u32) -> bool
-    ensures { result ≡ not (no_length n) }
+    ensures { result ≡ not (is_no_length n) }
 {
     (1..=LONGEST).contains(&n)
 }
 
 // n, or the cap where n is above it.
 fn up_to_cap(n: u64) -> u32
-    ensures { result ≡ capped n }
+    ensures { result ≡ up_to_cap n }
 {
     n.min(u64::from(CAP)) as u32
 }
 
 // n / by, rounded up.
-fn rounded_up(n: u64, by: u64) -> u64
+fn div_up(n: u64, by: u64) -> u64
     requires { 0 < by }
-    ensures value { result ≡ divided_up n by }
+    ensures value { result ≡ div_up n by }
     ensures bound { result ≤ n }
 {
     n.div_ceil(by)

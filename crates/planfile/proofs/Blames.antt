@@ -5,8 +5,8 @@ use Rattle.std.proofs.lemmas.Bool.{cond-false}
 use Rattle.demand.specs.declared.KindRefusal.{KindRefusal}
 use Rattle.demand.specs.declared.KindRefusal.TheVariants.{Job, Period, Delay, Speed}
 use Rattle.demand.specs.Refusals.{first, refusal_number}
-use Rattle.table.specs.declared.HoldRefusal.{HoldRefusal}
-use Rattle.table.specs.declared.HoldRefusal.TheVariants.{Number as OfNumber, Priority, Suspension, Deadline, Section, NoPlace, Late}
+use Rattle.table.specs.declared.refusals.HoldRefusal.{HoldRefusal}
+use Rattle.table.specs.declared.refusals.HoldRefusal.TheVariants.{Number as OfNumber, Priority, Suspension, Deadline, Section, NoPlace, Late}
 use Rattle.table.specs.Account.{hold_number}
 use Rattle.planfile.specs.declared.fault.LineFault.{LineFault}
 use Rattle.planfile.specs.declared.fault.LineFault.TheVariants.{Word as OfWord, Length, Count, Number, Kind, Hold}

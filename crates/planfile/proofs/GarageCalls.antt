@@ -2,7 +2,7 @@
 use Rattle.std.proofs.Common.{◌≡◌, ℕ, T, leb, [], ◌∷◌, Ok, refl, arith}
 use Rattle.analysis.proofs.Tested.{late_by}
 use Rattle.demand.specs.Refusals.{first}
-use Rattle.table.specs.declared.HoldRefusal.TheVariants.{Late}
+use Rattle.table.specs.declared.refusals.HoldRefusal.TheVariants.{Late}
 use Rattle.table.specs.Account.{Accepted, Refused, Withdraws, BoundsAnswered, hold_checks}
 use Rattle.planfile.specs.Figures.{garage_bounds, garage_vectors, car_hold, all_kept, car_gone}
 use Rattle.planfile.specs.Reading.{taking}

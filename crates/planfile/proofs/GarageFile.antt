@@ -2,8 +2,8 @@
 use Rattle.std.proofs.Common.{◌≡◌, ℕ, T, leb, List, [], ◌∷◌, get_or, Ok, Err, Result, refl, inl, inr}
 use Rattle.analysis.specs.Ranks.{Claim}
 use Rattle.demand.specs.Refusals.{first}
-use Rattle.table.specs.declared.Hold.{Hold as Token}
-use Rattle.table.specs.declared.HoldRefusal.TheVariants.{Late}
+use Rattle.table.specs.declared.hold.Hold.{Hold as Token}
+use Rattle.table.specs.declared.refusals.HoldRefusal.TheVariants.{Late}
 use Rattle.table.specs.Account.{Accepted, Refused, hold_checks}
 use Rattle.planfile.specs.declared.fault.Blame.{Blame}
 use Rattle.planfile.specs.declared.fault.LineFault.TheVariants.{Hold}

@@ -11,7 +11,7 @@ use Rattle.std.specs.Result.{IsErrAnd}
 use Rattle.std.proofs.lemmas.List.{drop_more, get_or-map, length-map, length-drop}
 use Rattle.std.proofs.lemmas.List.FromFn.{length-enumerate_from, get_or-enumerate_from}
 use Rattle.analysis.specs.Ranks.{Claim}
-use Rattle.demand.specs.declared.speed.Factor.{Factor}
+use Rattle.demand.specs.declared.factor.Factor.{Factor}
 use Rattle.planfile.specs.declared.fault.Blame.{Blame}
 use Rattle.planfile.specs.Fault.{nothing, at_line, first_blame}
 use Rattle.planfile.specs.Checks.{clock_checks, clock_of}

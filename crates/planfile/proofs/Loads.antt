@@ -3,7 +3,7 @@ use Rattle.std.proofs.Common.{◌≡◌, ℕ, ◌≢◌, List, length, Ok, Err, 
 use Rattle.analysis.specs.declared.Answer.{Answer}
 use Rattle.analysis.specs.declared.answers.Answers.{Answers}
 use Rattle.analysis.specs.Judge.{Answered, answers_of}
-use Rattle.analysis.specs.Ranks.{Claim, ranked, loads}
+use Rattle.analysis.specs.Ranks.{Claim, ranking, loads}
 use Rattle.table.specs.Agreement.{LawfulRows}
 use Rattle.planfile.specs.declared.fault.Blame.{Blame}
 use Rattle.planfile.specs.declared.fault.Fault.{Fault}
@@ -23,11 +23,11 @@ pub by_lines : (text before : List ℕ) (f : Fault) → first_blame (file_checks
 by_lines text before f pass read = (inr (pass, read), refl)
 
 -- the answers that are shown are those of the rows
-pub listed : (rows : List Claim) (all : Answers) (shown : List Answer) → Answered (loads (ranked rows)) (answers_of all) → shown ≡ answers_of all → Answered (loads (ranked rows)) shown
+pub listed : (rows : List Claim) (all : Answers) (shown : List Answer) → Answered (loads (ranking rows)) (answers_of all) → shown ≡ answers_of all → Answered (loads (ranking rows)) shown
 listed rows all shown p e = rw e p
 
 -- all is in time, and the report is written
-pub by_report : (text before : List ℕ) (rows : List Claim) (answers : List Answer) (n : ℕ) (after : List ℕ) → first_blame (file_checks text (length before)) ≡ nothing → LinesRead text (Ok rows) → LawfulRows rows → Answered (loads (ranked rows)) answers → Wrote before 0 (report answers) n after → Loaded text before (Ok n) after
+pub by_report : (text before : List ℕ) (rows : List Claim) (answers : List Answer) (n : ℕ) (after : List ℕ) → first_blame (file_checks text (length before)) ≡ nothing → LinesRead text (Ok rows) → LawfulRows rows → Answered (loads (ranking rows)) answers → Wrote before 0 (report answers) n after → Loaded text before (Ok n) after
 by_report text before rows answers n after pass read lawful given wrote =
     record {
       rows = rows;

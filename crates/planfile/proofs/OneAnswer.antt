@@ -3,15 +3,15 @@ use Rattle.std.proofs.Common.{◌≡◌, ℕ, ◌+◌, ◌<◌, ◌≤◌, cond,
 use Rattle.std.proofs.lemmas.Bool.Decides.{nat_tests}
 use Rattle.analysis.specs.Judge.{LateRow}
 use Rattle.analysis.specs.Plans.{System, FirstLate}
-use Rattle.analysis.specs.Ranks.{Claim, Load, system, loads, ranked}
+use Rattle.analysis.specs.Ranks.{Claim, Load, system, loads, ranking}
 use Rattle.analysis.proofs.Best.{Grows, window_kept}
-use Rattle.table.specs.declared.HoldRefusal.{HoldRefusal}
-use Rattle.table.specs.declared.HoldRefusal.TheVariants.{Number, Priority, Suspension, Deadline, Section, NoPlace, Late}
+use Rattle.table.specs.declared.refusals.HoldRefusal.{HoldRefusal}
+use Rattle.table.specs.declared.refusals.HoldRefusal.TheVariants.{Number, Priority, Suspension, Deadline, Section, NoPlace, Late}
 use Rattle.table.specs.Account.{Refused, hold_number, hold_late}
 use Rattle.table.specs.Agreement.{LawfulRows}
 use Rattle.table.proofs.Shared.{at_least_five, needs_grow}
 use Rattle.table.proofs.Unique.{same_bounds}
-use Rattle.demand.specs.declared.speed.Factor.{Factor}
+use Rattle.demand.specs.declared.factor.Factor.{Factor}
 use Rattle.planfile.specs.declared.fault.Fault.{Fault}
 use Rattle.planfile.specs.declared.fault.LineFault.TheVariants.{Hold}
 use Rattle.planfile.specs.declared.fault.Blame.{Blame}
@@ -66,7 +66,7 @@ refused_once rows c lawful d e p q =
     cc
   where
     both : hold_number d ≡ 11 → hold_number e ≡ 11 → hold_late d ≡ hold_late e
-    both h l = named_once (loads (ranked (c ∷ rows))) (hold_late d) (hold_late e) (needs_grow (c ∷ rows) lawful) (p.late h) (q.late l)
+    both h l = named_once (loads (ranking (c ∷ rows))) (hold_late d) (hold_late e) (needs_grow (c ∷ rows) lawful) (p.late h) (q.late l)
 
     go : hold_number d ≡ hold_number e → (hold_number d ≡ 11) ⊎ (hold_late d ≡ 0) → (hold_number e ≡ 11) ⊎ (hold_late e ≡ 0) → hold_late d ≡ hold_late e
     go same (inl h) l = both h (sym same ∙ h)

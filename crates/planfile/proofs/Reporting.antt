@@ -3,13 +3,13 @@ use Rattle.std.proofs.Common.{◌≡◌, ℕ, zero, suc, ◌+◌, ◌^◌, ◌<�
 use Rattle.analysis.specs.declared.Answer.{Answer}
 use Rattle.analysis.specs.declared.Row.{Row}
 use Rattle.analysis.specs.Judge.{Answered, InTime, no_answer, bounds_of, vectors_of}
-use Rattle.analysis.specs.Ranks.{Claim, Reordered, same, next, swapped, through, ranked, rows as rows_alone, loads, loads_of, at, system_of}
+use Rattle.analysis.specs.Ranks.{Claim, Reordered, same, next, swapped, through, ranking, rows as rows_alone, loads, loads_of, at, system_of}
 use Rattle.analysis.proofs.Best.{best_plan}
 use Rattle.analysis.proofs.Order.{highest_first}
 use Rattle.table.specs.Account.{number_of}
 use Rattle.table.specs.Agreement.{LawfulRows}
 use Rattle.table.proofs.Shared.{passed, needs_grow, length_ranks}
-use Rattle.demand.specs.declared.speed.Factor.{Factor}
+use Rattle.demand.specs.declared.factor.Factor.{Factor}
 use Rattle.planfile.specs.Checks.{entry_of}
 use Rattle.planfile.specs.Reading.{taking, claim_in, RowTaken, RowsRead, LinesRead}
 use Rattle.planfile.specs.Report.{report}
@@ -60,12 +60,12 @@ limited_at all (c ∷ cs) h zero l = h.0
 limited_at all (c ∷ cs) h (suc k) l = limited_at all cs h.1 k (omega arith)
 
 -- the answer for a rank is small
-small_answer : (rows : List Claim) (answers : List Answer) → AllLimited rows → length rows ≤ 12 → Answered (loads (ranked rows)) answers → (k : ℕ) → k < length answers → SmallAnswer (get_or answers k no_answer)
+small_answer : (rows : List Claim) (answers : List Answer) → AllLimited rows → length rows ≤ 12 → Answered (loads (ranking rows)) answers → (k : ℕ) → k < length answers → SmallAnswer (get_or answers k no_answer)
 small_answer rows answers small few answered k l =
-    let ls = loads (ranked rows) in
+    let ls = loads (ranking rows) in
     let within : k < length ls = (let e = answered.count in omega arith) in
     let low : k ≤ 12 = (let e = length_ranks rows in omega arith) in
-    let one = limited_at (rows_alone (ranked rows)) (ranked rows) (limited_reordered (highest_first rows).reordered small) k within in
+    let one = limited_at (rows_alone (ranking rows)) (ranking rows) (limited_reordered (highest_first rows).reordered small) k within in
     let row = answered.rows k within in
     let cover = (answered.bounds k within).covers in
     let vectors : 2 ^ k ≤ 2 ^ 12 = pow_mono low in
@@ -77,13 +77,13 @@ small_answer rows answers small few answered k l =
     }
 
 -- the report of the rows of a file fits
-pub fits : (text : List ℕ) (rows : List Claim) (answers : List Answer) → LinesRead text (Ok rows) → Answered (loads (ranked rows)) answers → length (report answers) ≤ 512
+pub fits : (text : List ℕ) (rows : List Claim) (answers : List Answer) → LinesRead text (Ok rows) → Answered (loads (ranking rows)) answers → length (report answers) ≤ 512
 fits text rows answers read answered =
     let limits = lines_limited text rows read in
     report_fits answers (let e = answered.count in let f = length_ranks rows in let g = limits.1 in omega arith) (small_answer rows answers limits.0 limits.1 answered)
 
 -- and its answers are the best plan's
-pub all_in_time : (text : List ℕ) (rows : List Claim) (answers : List Answer) → LinesRead text (Ok rows) → LawfulRows rows → Answered (loads (ranked rows)) answers → InTime rows answers
+pub all_in_time : (text : List ℕ) (rows : List Claim) (answers : List Answer) → LinesRead text (Ok rows) → LawfulRows rows → Answered (loads (ranking rows)) answers → InTime rows answers
 all_in_time text rows answers read lawful answered =
     record {
       few = (lines_limited text rows read).1;

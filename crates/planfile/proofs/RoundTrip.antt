@@ -5,7 +5,7 @@ use Rattle.std.proofs.lemmas.Bool.{cond-false, le-ltb, or_from, not_from_true}
 use Rattle.analysis.specs.Judge.{InTime}
 use Rattle.analysis.specs.Ranks.{Claim}
 use Rattle.table.specs.Account.{Refused}
-use Rattle.demand.specs.declared.speed.Factor.{Factor}
+use Rattle.demand.specs.declared.factor.Factor.{Factor}
 use Rattle.planfile.specs.declared.fault.Fault.{Fault}
 use Rattle.planfile.specs.declared.fault.Blame.{Blame}
 use Rattle.planfile.specs.Fault.{nothing, by, first_blame, blame}

@@ -2,19 +2,19 @@
 use Rattle.std.proofs.Common.{◌≡◌, ◌+◌, ◌≤◌, List, [], ◌∷◌, length, sym, refl, ◌∙◌, arith}
 use Rattle.demand.specs.Demand.{Lawful}
 use Rattle.demand.specs.Basic.{every_demand, heavy_demand}
-use Rattle.demand.specs.Made.{delayed}
+use Rattle.demand.specs.Made.{delayed_by}
 use Rattle.demand.specs.Refusals.{first}
 use Rattle.demand.specs.Laws.{every_lawful, heavy_lawful, either_lawful, delayed_lawful, slowed_lawful}
 use Rattle.analysis.specs.Ranks.{Claim, DistinctPriorities, system_of}
 use Rattle.analysis.specs.Removal.{SomeOf, none, keep, leave}
 use Rattle.analysis.proofs.Best.{late_no_plan}
 use Rattle.analysis.proofs.Removal.{removal_keeps_in_time}
-use Rattle.table.specs.declared.HoldRefusal.{HoldRefusal}
+use Rattle.table.specs.declared.refusals.HoldRefusal.{HoldRefusal}
 use Rattle.table.specs.Account.{AllInTime, Refused, hold_checks}
 use Rattle.table.specs.Agreement.{LawfulRows}
 use Rattle.table.proofs.Promise.{is_late}
 use Rattle.table.proofs.Shared.{needs_grow, ranked_lawful, has_plan, passed}
-use Rattle.demand.specs.declared.speed.Factor.{Factor}
+use Rattle.demand.specs.declared.factor.Factor.{Factor}
 use Rattle.planfile.specs.Checks.{Jobs, Entry, jobs_demand, claim_of}
 use Rattle.planfile.specs.Reading.{taking}
 use Rattle.planfile.specs.Laws.{claims_onto, NumbersPass}
@@ -24,7 +24,7 @@ jobs_lawful = either_lawful every_demand heavy_demand (λ k. every_lawful k.job 
 
 pub claim_lawful : (clock : Factor) (e : Entry) → Lawful (claim_of clock e).demand
 claim_lawful clock e =
-    slowed_lawful clock.numerator clock.denominator (delayed e.delay (jobs_demand e.jobs)) (delayed_lawful e.delay (jobs_demand e.jobs) (jobs_lawful e.jobs))
+    slowed_lawful clock.numerator clock.denominator (delayed_by e.delay (jobs_demand e.jobs)) (delayed_lawful e.delay (jobs_demand e.jobs) (jobs_lawful e.jobs))
 
 -- rows that were there before entries are among all
 some_onto : (clock : Factor) (xs rows : List Claim) (es : List Entry) → SomeOf ◌≡◌ xs rows → SomeOf ◌≡◌ xs (claims_onto clock rows es)

@@ -4,15 +4,15 @@ use Rattle.std.proofs.lemmas.Bool.Decides.{nat_tests}
 use Rattle.analysis.specs.declared.Row.{Row}
 use Rattle.analysis.specs.declared.Task.{Task}
 use Rattle.analysis.specs.Ranks.{Claim}
-use Rattle.demand.specs.declared.jitter.Delayed.{Delayed}
+use Rattle.demand.specs.declared.delayed.Delayed.{Delayed}
 use Rattle.demand.specs.Refusals.{first, delayed_checks}
 use Rattle.table.specs.declared.Table.{Table}
 use Rattle.analysis.specs.declared.answers.Answers.{Answers}
 use Rattle.table.specs.Account.{Account, bears, number_of, with_row, with_kept}
 use Rattle.table.specs.Agreement.{AgreesWith}
 use Rattle.runs.specs.Passing.{KeepsRow, hold_on}
-use Rattle.demand.specs.declared.speed.Factor.{Factor}
-use Rattle.demand.specs.declared.speed.Slowed.{Slowed}
+use Rattle.demand.specs.declared.factor.Factor.{Factor}
+use Rattle.demand.specs.declared.slowed.Slowed.{Slowed}
 use Rattle.planfile.specs.declared.fault.Blame.{Blame}
 use Rattle.planfile.specs.Fault.{nothing, by, first_blame}
 use Rattle.planfile.specs.Checks.{Jobs, row_of, task_of, shape_checks, number_checks, number_in, row_checks, blaming_none, jobs_checks, jobs_demand, entry_of, row_demand}

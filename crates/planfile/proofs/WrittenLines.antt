@@ -3,7 +3,7 @@ use Rattle.std.proofs.Common.{◌≡◌, ℕ, ◌<◌, ◌≤◌, true, false, n
 use Rattle.std.proofs.lemmas.Fmt.{digits_decimal, digits_value-decimal, decimal_nonempty, length-decimal-le}
 use Rattle.std.proofs.lemmas.List.{append_assoc, length-append, length-map}
 use Rattle.std.proofs.lemmas.Bool.{and_parts, leb-true, ne_eqb, not_from_true}
-use Rattle.demand.specs.declared.speed.Factor.{Factor}
+use Rattle.demand.specs.declared.factor.Factor.{Factor}
 use Rattle.either.specs.declared.Either.TheVariants.{Left, Right}
 use Rattle.planfile.specs.Checks.{Jobs, Entry}
 use Rattle.planfile.specs.Text.{newline, tab, is_digit, all_digits, value, is_number}

@@ -2,7 +2,7 @@
 use Rattle.std.proofs.Common.{◌≡◌, ℕ, zero, suc, ◌+◌, ◌-◌, ◌≤◌, not, List, [], ◌∷◌, ◌++◌, map, length, get_or, drop, codes, decimal, refl, ap, ◌∙◌, subst, arith}
 use Rattle.demand.specs.Refusals.{first, slowed_checks}
 use Rattle.planfile.proofs.Blames.{NoneApply, none_front, none_append, first_of_none}
-use Rattle.demand.specs.declared.speed.Factor.{Factor}
+use Rattle.demand.specs.declared.factor.Factor.{Factor}
 use Rattle.either.specs.declared.Either.TheVariants.{Left, Right}
 use Rattle.planfile.specs.Fault.{nothing, first_blame, by}
 use Rattle.planfile.specs.Text.{fields, field, word_of, value, is_number}

@@ -7,17 +7,17 @@ use Rattle.analysis.specs.declared.Task.{Task}
 use Rattle.analysis.specs.Ranks.{Claim}
 use Rattle.demand.specs.Demand.{Demand}
 use Rattle.demand.specs.Basic.{every_demand, heavy_demand}
-use Rattle.demand.specs.Made.{delayed, slowed, delayed_demand, slowed_demand, either_demand}
+use Rattle.demand.specs.Made.{delayed_by, slowed_by, delayed_demand, slowed_demand, either_demand}
 use Rattle.either.specs.declared.Either.{Either}
 use Rattle.either.specs.declared.Either.TheVariants.{Left, Right}
-use Rattle.demand.specs.declared.jitter.Delayed.{Delayed}
-use Rattle.demand.specs.declared.pattern.Heavy.{Heavy as HeavyKind}
-use Rattle.demand.specs.declared.periodic.Every.{Every as EveryKind}
-use Rattle.demand.specs.declared.speed.Slowed.{Slowed}
+use Rattle.demand.specs.declared.delayed.Delayed.{Delayed}
+use Rattle.demand.specs.declared.heavy.Heavy.{Heavy as HeavyKind}
+use Rattle.demand.specs.declared.every.Every.{Every as EveryKind}
+use Rattle.demand.specs.declared.slowed.Slowed.{Slowed}
 use Rattle.demand.specs.Refusals.{first, every_checks, heavy_checks, delayed_checks, slowed_checks}
 use Rattle.planfile.specs.declared.word.Word.{Word}
 use Rattle.planfile.specs.declared.word.Word.TheVariants.{Clock, Row as RowWord, Every, Heavy, Other}
-use Rattle.demand.specs.declared.speed.Factor.{Factor}
+use Rattle.demand.specs.declared.factor.Factor.{Factor}
 use Rattle.planfile.specs.declared.fault.FieldFault.{FieldFault}
 use Rattle.planfile.specs.declared.fault.LineFault.{LineFault}
 use Rattle.planfile.specs.declared.fault.Blame.{Blame}
@@ -150,7 +150,7 @@ kind_checks e = jobs_checks e.jobs ++ delayed_checks e.delay (jobs_demand e.jobs
 
 -- a row with the meaning of its kind: its jobs, each late by up to the delay, all slowed by the clock's factor
 abbrev pub claim_of : Factor → Entry → Claim
-claim_of clock e = record { row = e.row; demand = slowed clock.numerator clock.denominator (delayed e.delay (jobs_demand e.jobs)) }
+claim_of clock e = record { row = e.row; demand = slowed_by clock.numerator clock.denominator (delayed_by e.delay (jobs_demand e.jobs)) }
 
 -- what a value of the code means: the kind of a row of a plan file
 abbrev pub row_demand : Slowed (Delayed Jobs) → Demand

@@ -5,12 +5,12 @@ use Rattle.std.specs.Prelude.{◌≡◌, ℕ, List, [], ◌∷◌, ◌++◌, map
 use Rattle.analysis.specs.declared.Answer.{Answer}
 use Rattle.analysis.specs.Judge.{InTime}
 use Rattle.analysis.specs.Plans.{Bounds, Fixed}
-use Rattle.analysis.specs.Ranks.{Claim, Load, ranked, loads, system_of}
-use Rattle.demand.specs.declared.speed.Factor.{Factor}
+use Rattle.analysis.specs.Ranks.{Claim, Load, ranking, loads, system_of}
+use Rattle.demand.specs.declared.factor.Factor.{Factor}
 use Rattle.demand.specs.Figures.{KindFigures}
 use Rattle.either.specs.declared.Either.TheVariants.{Left}
-use Rattle.table.specs.declared.Hold.{Hold}
-use Rattle.table.specs.declared.HoldRefusal.TheVariants.{Late}
+use Rattle.table.specs.declared.hold.Hold.{Hold}
+use Rattle.table.specs.declared.refusals.HoldRefusal.TheVariants.{Late}
 use Rattle.table.specs.Account.{Account, Holds, Withdraws, BoundsAnswered, with_row, with_withdrawn}
 use Rattle.planfile.specs.declared.fault.Blame.{Blame}
 use Rattle.planfile.specs.Checks.{Entry, clock_checks, line_checks}
@@ -66,7 +66,7 @@ file_rows = rows_in garage_file
 
 -- the same rows, highest first, with their blocking
 abbrev pub file_loads : List Load
-file_loads = loads (ranked file_rows)
+file_loads = loads (ranking file_rows)
 
 -- the account that keeps the meters and the card reader of such a file
 abbrev pub before_car : List ℕ → Account

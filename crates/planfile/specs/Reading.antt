@@ -4,15 +4,15 @@
 use Rattle.std.specs.Prelude.{◌≡◌, ℕ, ◌+◌, Bool, not, ◌||◌, ◌≢◌, ◌⊎◌, List, [], ◌∷◌, length, drop, Ok, Err, Result, nat_lt, slice_index_or}
 use Rattle.analysis.specs.declared.answers.Answers.{Answers}
 use Rattle.analysis.specs.Judge.{Answered, answers_of}
-use Rattle.analysis.specs.Ranks.{Claim, loads, ranked}
-use Rattle.table.specs.declared.Hold.{Hold as Token}
-use Rattle.table.specs.declared.HoldRefusal.{HoldRefusal}
+use Rattle.analysis.specs.Ranks.{Claim, loads, ranking}
+use Rattle.table.specs.declared.hold.Hold.{Hold as Token}
+use Rattle.table.specs.declared.refusals.HoldRefusal.{HoldRefusal}
 use Rattle.table.specs.declared.Table.{Table}
 use Rattle.table.specs.Account.{Account, Accepted, Refused}
 use Rattle.table.specs.Agreement.{AgreesWith}
-use Rattle.demand.specs.declared.jitter.Delayed.{Delayed}
-use Rattle.demand.specs.declared.speed.Factor.{Factor}
-use Rattle.demand.specs.declared.speed.Slowed.{Slowed}
+use Rattle.demand.specs.declared.delayed.Delayed.{Delayed}
+use Rattle.demand.specs.declared.factor.Factor.{Factor}
+use Rattle.demand.specs.declared.slowed.Slowed.{Slowed}
 use Rattle.planfile.specs.declared.fault.LineFault.TheVariants.{Hold}
 use Rattle.planfile.specs.declared.fault.Blame.{Blame}
 use Rattle.planfile.specs.Fault.{nothing, by, at_line, first_blame, line_blame}
@@ -26,7 +26,7 @@ taking rows = record { number = 0; room = 12; rows = rows; holds = [] }
 -- The table has these rows, all kept and none held, and the answers are those of all of them.
 pub record RowsKept (rows : List Claim) (t : Table (Slowed (Delayed Jobs))) (all : Answers) : Type 0 where
   pub agrees : AgreesWith row_demand (taking rows) t
-  pub answered : Answered (loads (ranked rows)) (answers_of all)
+  pub answered : Answered (loads (ranking rows)) (answers_of all)
 
 -- the row of a row line
 abbrev pub claim_in : Factor → List (List ℕ) → Claim

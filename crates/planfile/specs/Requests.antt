@@ -4,9 +4,9 @@
 use Rattle.std.specs.Prelude.{◌≡◌, ℕ, Bool, true, false, not, ◌&&◌, ◌||◌, List, [], ◌∷◌, ◌++◌, length, Some, None, Option, Ok, Err, Result, cond, codes, ◌==◌, nat_le, nat_lt}
 use Rattle.std.specs.Cmp.Lexicographic.{pointwise}
 use Rattle.analysis.specs.declared.Task.{Task}
-use Rattle.demand.specs.declared.jitter.Delayed.{Delayed}
-use Rattle.demand.specs.declared.speed.Factor.{Factor}
-use Rattle.demand.specs.declared.speed.Slowed.{Slowed}
+use Rattle.demand.specs.declared.delayed.Delayed.{Delayed}
+use Rattle.demand.specs.declared.factor.Factor.{Factor}
+use Rattle.demand.specs.declared.slowed.Slowed.{Slowed}
 use Rattle.runs.specs.declared.call.HoldId.{HoldId}
 use Rattle.runs.specs.declared.call.Call.TheVariants.{Hold as HoldCall, Keep as KeepCall, Release as ReleaseCall, Withdraw as WithdrawCall, Bound as BoundCall}
 use Rattle.planfile.specs.declared.fault.Blame.{Blame}

@@ -3,7 +3,7 @@ use Rattle.std.proofs.Common.{◌≡◌, ℕ, Ok, Err, MatchResult, Option, Resu
 use Rattle.std.proofs.Math.Path.{ap₂}
 use Rattle.std.proofs.lemmas.List.{drop-set-lt, length-set}
 use Rattle.analysis.specs.declared.Task.{Task}
-use Rattle.table.specs.declared.State.{State}
+use Rattle.table.specs.declared.state.State.{State}
 use Rattle.table.specs.declared.Table.{Table}
 use Rattle.table.specs.Account.{Account, fresh}
 use Rattle.table.specs.Memory.{ChangedAt, MarkedAt, SameTable}

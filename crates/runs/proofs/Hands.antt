@@ -13,14 +13,14 @@ use Rattle.analysis.specs.declared.Task.{Task}
 use Rattle.table.specs.History.{Continues, HasHistory}
 use Rattle.table.proofs.InHand.{has_held_is, keep_refused, release_refused}
 use Rattle.table.proofs.Spending.{not_ours}
-use Rattle.table.specs.declared.SpendRefusal.{SpendRefusal}
-use Rattle.table.specs.declared.SpendRefusal.TheVariants.{NotHeld}
+use Rattle.table.specs.declared.refusals.SpendRefusal.{SpendRefusal}
+use Rattle.table.specs.declared.refusals.SpendRefusal.TheVariants.{NotHeld}
 use Rattle.table.specs.Account.{Account, handed_back, unspent}
 use Rattle.table.specs.Agreement.{AgreesWith}
 use Rattle.runs.specs.declared.call.Way.{Way}
 use Rattle.runs.specs.declared.call.Way.TheVariants.{KeepRow, GiveUp}
 use Rattle.runs.specs.Calls.{on_row, spending}
-use Rattle.table.specs.declared.Hold.{Hold}
+use Rattle.table.specs.declared.hold.Hold.{Hold}
 use Rattle.table.specs.declared.Table.{Table}
 use Rattle.table.specs.Places.{has_held}
 use Rattle.runs.specs.Holds.{GivesHoldOn, HandsBack, InHand, SameHeld, SpendsHoldOn, frame_of, has_hold, is_on, is_token}

@@ -8,11 +8,11 @@ use Rattle.demand.specs.Demand.{Demand}
 use Rattle.demand.specs.Refusals.{first}
 use Rattle.analysis.specs.declared.Task.{Task}
 use Rattle.analysis.specs.Ranks.{Claim}
-use Rattle.table.specs.declared.Hold.{Hold}
-use Rattle.table.specs.declared.HoldRefusal.{HoldRefusal}
-use Rattle.table.specs.declared.SpendRefusal.{SpendRefusal}
-use Rattle.table.specs.declared.SpendRefusal.TheVariants.{NotHeld}
-use Rattle.table.specs.declared.WithdrawRefusal.{WithdrawRefusal}
+use Rattle.table.specs.declared.hold.Hold.{Hold}
+use Rattle.table.specs.declared.refusals.HoldRefusal.{HoldRefusal}
+use Rattle.table.specs.declared.refusals.SpendRefusal.{SpendRefusal}
+use Rattle.table.specs.declared.refusals.SpendRefusal.TheVariants.{NotHeld}
+use Rattle.table.specs.declared.refusals.WithdrawRefusal.{WithdrawRefusal}
 use Rattle.table.specs.declared.Table.{Table}
 use Rattle.table.specs.Account.{Account, Holds, Spends, Withdraws, handed_back, number_of, spend_checks, spent, unspent}
 use Rattle.table.specs.Agreement.{AgreesWith}

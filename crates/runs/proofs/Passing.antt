@@ -7,9 +7,9 @@ use Rattle.demand.specs.Demand.{Demand}
 use Rattle.demand.specs.Refusals.{first}
 use Rattle.analysis.specs.declared.answers.Answers.{Answers}
 use Rattle.analysis.specs.Ranks.{Claim}
-use Rattle.table.specs.declared.Hold.{Hold}
-use Rattle.table.specs.declared.HoldRefusal.{HoldRefusal}
-use Rattle.table.specs.declared.SpendRefusal.{SpendRefusal}
+use Rattle.table.specs.declared.hold.Hold.{Hold}
+use Rattle.table.specs.declared.refusals.HoldRefusal.{HoldRefusal}
+use Rattle.table.specs.declared.refusals.SpendRefusal.{SpendRefusal}
 use Rattle.table.specs.declared.Table.{Table}
 use Rattle.table.specs.Account.{Account, Accepted, Bears, bears, HoldsAnswered, Spends, hold_checks, number_of, spent, unspent, with_kept, with_released, with_row, without}
 use Rattle.table.specs.Agreement.{AgreesWith, Sound}

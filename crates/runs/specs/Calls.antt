@@ -5,10 +5,10 @@ use Rattle.std.specs.Prelude.{◌≡◌, ℕ, List, [], ◌∷◌, Ok, Err, Resu
 use Rattle.demand.specs.Demand.{Demand}
 use Rattle.analysis.specs.declared.Task.{Task}
 use Rattle.analysis.specs.Ranks.{Claim}
-use Rattle.table.specs.declared.Hold.{Hold as Token}
-use Rattle.table.specs.declared.HoldRefusal.{HoldRefusal}
-use Rattle.table.specs.declared.SpendRefusal.{SpendRefusal}
-use Rattle.table.specs.declared.SpendRefusal.TheVariants.{NotHeld as Back}
+use Rattle.table.specs.declared.hold.Hold.{Hold as Token}
+use Rattle.table.specs.declared.refusals.HoldRefusal.{HoldRefusal}
+use Rattle.table.specs.declared.refusals.SpendRefusal.{SpendRefusal}
+use Rattle.table.specs.declared.refusals.SpendRefusal.TheVariants.{NotHeld as Back}
 use Rattle.table.specs.Account.{hold_number, withdraw_number, bound_number}
 use Rattle.table.specs.Runs.{Event, holding, keeping, releasing, withdrawing, bounding}
 use Rattle.runs.specs.declared.call.HoldId.{HoldId}

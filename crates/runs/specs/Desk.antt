@@ -5,7 +5,7 @@ use Rattle.std.specs.Prelude.{◌≡◌, List, ◌∷◌}
 use Rattle.demand.specs.Demand.{Demand}
 use Rattle.demand.specs.declared.Kind.{Ghosts}
 use Rattle.analysis.specs.Judge.{InTime, answers_of, bounds_of, vectors_of}
-use Rattle.table.specs.declared.Hold.{Hold}
+use Rattle.table.specs.declared.hold.Hold.{Hold}
 use Rattle.table.specs.declared.Table.{Table}
 use Rattle.table.specs.History.{HasHistory, Promise, Promised, rows_at}
 use Rattle.table.specs.Runs.{Event}

@@ -3,8 +3,8 @@
 use Rattle.std.specs.Prelude.{◌≡◌, ◌≢◌, ℕ, Bool, true, false, not, ◌&&◌, ◌||◌, ◌==◌, List, Option, All, AllPairs, drop}
 use Rattle.std.specs.List.{list_any}
 use Rattle.analysis.specs.declared.Task.{Task}
-use Rattle.table.specs.declared.Hold.{Hold}
-use Rattle.table.specs.declared.SpendRefusal.{SpendRefusal}
+use Rattle.table.specs.declared.hold.Hold.{Hold}
+use Rattle.table.specs.declared.refusals.SpendRefusal.{SpendRefusal}
 use Rattle.table.specs.declared.Table.{Table}
 use Rattle.table.specs.Account.{Account, handed_back}
 use Rattle.table.specs.History.{fresh_of}

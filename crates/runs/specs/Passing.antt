@@ -3,9 +3,9 @@
 use Rattle.std.specs.Prelude.{◌≡◌, ℕ, List, ◌∷◌, Ok, Err, Result}
 use Rattle.analysis.specs.declared.answers.Answers.{Answers}
 use Rattle.analysis.specs.Judge.{Answered, answers_of}
-use Rattle.analysis.specs.Ranks.{Claim, ranked, loads}
-use Rattle.table.specs.declared.Hold.{Hold}
-use Rattle.table.specs.declared.HoldRefusal.{HoldRefusal}
+use Rattle.analysis.specs.Ranks.{Claim, ranking, loads}
+use Rattle.table.specs.declared.hold.Hold.{Hold}
+use Rattle.table.specs.declared.refusals.HoldRefusal.{HoldRefusal}
 use Rattle.table.specs.Runs.{Event, holding}
 use Rattle.runs.specs.Calls.{on_row, spending}
 use Rattle.runs.specs.declared.call.Way.{Way}
@@ -18,7 +18,7 @@ hold_on a c = record { table = a.number; row = number_of c }
 
 -- the row was accepted, with these answers for all rows then
 abbrev pub AcceptedWith : Account → Claim → Answers → Type 0
-AcceptedWith a c all = Accepted a c (hold_on a c) × Answered (loads (ranked (c ∷ a.rows))) (answers_of all)
+AcceptedWith a c all = Accepted a c (hold_on a c) × Answered (loads (ranking (c ∷ a.rows))) (answers_of all)
 
 -- the row was held and kept, or refused, and then nothing has changed
 abbrev pub KeepsRow : Account → Claim → Result Answers HoldRefusal → Account → Type 0

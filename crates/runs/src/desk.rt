@@ -2,7 +2,7 @@
 ghost use Rattle.std.specs.Prelude.{◌≡◌, ◌≢◌, ℕ, List, ◌+◌, ◌<◌, ◌≤◌, [], ◌++◌, IfOk, OnErr, OnOk, drop, length, min, map, position, true, false, vec_items, ◌↔◌};
 ghost use Rattle.std.specs.Vec.{vec_len, vec_capacity};
 ghost use Rattle.analysis.specs.Judge.{Answered, InTime, answers_of};
-ghost use Rattle.analysis.specs.Ranks.{loads, ranked};
+ghost use Rattle.analysis.specs.Ranks.{loads, ranking};
 ghost use Rattle.table.specs.Account.{Account, fresh};
 ghost use Rattle.table.specs.Agreement.{AgreesWith};
 ghost use Rattle.table.specs.History.{Continues, HasHistory, rows_at};
@@ -106,7 +106,7 @@ impl<'a, K: Kind + Drop> Desk<'a, K> {
     pub fn answers(&self) -> Answers
         ensures in_time { InTime (rows_at K.demand (table_of self.now)) (answers_of result) }
         ensures account { (a : Account) → AgreesWith K.demand a (table_of self.now)
-            → Answered (loads (ranked a.rows)) (answers_of result) }
+            → Answered (loads (ranking a.rows)) (answers_of result) }
     {
         self.register.answers()
     }

@@ -1,7 +1,7 @@
 // A table that only its own calls have changed, with no hold in hand.
 ghost use Rattle.std.specs.Prelude.{◌≡◌, List, min, [], length, MatchResult, OnErr};
 ghost use Rattle.analysis.specs.Judge.{Answered, InTime, answers_of};
-ghost use Rattle.analysis.specs.Ranks.{loads, ranked};
+ghost use Rattle.analysis.specs.Ranks.{loads, ranking};
 ghost use Rattle.table.specs.Account.{Account, fresh};
 ghost use Rattle.table.specs.Agreement.{AgreesWith};
 ghost use Rattle.table.specs.History.{Continues, HasHistory, HasSomeHistory, rows_at};
@@ -57,7 +57,7 @@ impl<'a, K: Kind + Drop> Register<'a, K> {
     pub fn answers(&self) -> Answers
         ensures in_time { InTime (rows_at K.demand self.now.table) (answers_of result) }
         ensures account { (a : Account) → AgreesWith K.demand a self.now.table
-            → Answered (loads (ranked a.rows)) (answers_of result) }
+            → Answered (loads (ranking a.rows)) (answers_of result) }
     {
         self.table.answers().unwrap()
     }

@@ -8,8 +8,8 @@ use Rattle.demand.specs.Demand.{Demand}
 use Rattle.analysis.specs.declared.Task.{Task}
 use Rattle.analysis.specs.Candidates.{claims_of}
 use Rattle.analysis.specs.Ranks.{same}
-use Rattle.table.specs.declared.State.{State}
-use Rattle.table.specs.declared.State.TheVariants.{Free}
+use Rattle.table.specs.declared.state.State.{State}
+use Rattle.table.specs.declared.state.State.TheVariants.{Free}
 use Rattle.table.specs.Account.{fresh}
 use Rattle.table.specs.Agreement.{StandsAt, Agrees}
 use Rattle.table.specs.Memory.{Emptied}

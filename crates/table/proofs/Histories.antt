@@ -13,14 +13,14 @@ use Rattle.analysis.specs.declared.Task.{Task}
 use Rattle.analysis.specs.Candidates.{claims_of}
 use Rattle.analysis.specs.Judge.{Answered, bounds_of, vectors_of}
 use Rattle.analysis.specs.Plans.{Bounds, BestPlan}
-use Rattle.analysis.specs.Ranks.{Claim, ranked, loads, at, system, system_of}
+use Rattle.analysis.specs.Ranks.{Claim, ranking, loads, at, system, system_of}
 use Rattle.analysis.proofs.AnyOrder.{any_order}
 use Rattle.analysis.proofs.Best.{best_plan}
-use Rattle.table.specs.declared.BoundRefusal.{BoundRefusal}
-use Rattle.table.specs.declared.Hold.{Hold}
-use Rattle.table.specs.declared.HoldRefusal.{HoldRefusal}
-use Rattle.table.specs.declared.State.{State}
-use Rattle.table.specs.declared.State.TheVariants.{Free, Held, Kept}
+use Rattle.table.specs.declared.refusals.BoundRefusal.{BoundRefusal}
+use Rattle.table.specs.declared.hold.Hold.{Hold}
+use Rattle.table.specs.declared.refusals.HoldRefusal.{HoldRefusal}
+use Rattle.table.specs.declared.state.State.{State}
+use Rattle.table.specs.declared.state.State.TheVariants.{Free, Held, Kept}
 use Rattle.table.specs.declared.Table.{Table}
 use Rattle.table.specs.Account.{Account, Bears, BoundOf, BoundsAnswered, bears, fresh, has_number, number_of, unspent}
 use Rattle.table.specs.Agreement.{AgreesWith, DistinctNumbers, Sound, StandsAt}
@@ -149,7 +149,7 @@ module _ {K : Type 0} (demand : K → Demand) (es : List Event) (t : Table K) (h
   sound : Sound a
   sound = h.agrees.sound
 
-  same_ranks : ranked (rows_at demand t) ≡ ranked a.rows
+  same_ranks : ranking (rows_at demand t) ≡ ranking a.rows
   same_ranks = any_order a.rows (rows_at demand t) (reordered_back h.agrees.rows_are) sound.priorities
 
   same_length : length (rows_at demand t) ≡ length a.rows
@@ -181,8 +181,8 @@ module _ {K : Type 0} (demand : K → Demand) (es : List Event) (t : Table K) (h
         subst (λ (cs : List Claim). BestPlan (system (loads cs)) R V) (sym same_ranks)
         (best_plan (system_of a.rows) (needs_grow a.rows sound.lawful) R V (all_ranks a.rows (record { R = R; V = V; bounds = bounds })))
 
-    module _ (c : Claim) (k : ℕ) (within : k < length a.rows) (is : (at (loads (ranked a.rows)) k).claim ≡ c) where
-      number : (at (loads (ranked a.rows)) k).claim.row.number ≡ number_of c
+    module _ (c : Claim) (k : ℕ) (within : k < length a.rows) (is : (at (loads (ranking a.rows)) k).claim ≡ c) where
+      number : (at (loads (ranking a.rows)) k).claim.row.number ≡ number_of c
       number = ap number_of is
 
       answered_so : BoundsAnswered a (number_of c) (Ok (R k, V k))
@@ -210,7 +210,7 @@ module _ {K : Type 0} (demand : K → Demand) (es : List Event) (t : Table K) (h
     each_bound : (p : ℕ) (c : Claim) → RowAt demand t p c → (k : ℕ) × HasRank demand t c k × JustBound demand es t (number_of c) (R k, V k)
     each_bound p c r =
         let found = rank_of_row (rows_at demand t) c (among_rows p c r) in
-        let is : (at (loads (ranked a.rows)) found.0).claim ≡ c = subst (λ (cs : List Claim). (at (loads cs) found.0).claim ≡ c) same_ranks found.2 in
+        let is : (at (loads (ranking a.rows)) found.0).claim ≡ c = subst (λ (cs : List Claim). (at (loads cs) found.0).claim ≡ c) same_ranks found.2 in
         (found.0, record { within = found.1; claim = found.2 }, just c found.0 (omega (arith, found.1, same_length)) is)
 
   late_then : (later : List Event) (c : Claim) (r : Result Hold HoldRefusal) (earlier : List Event) → es ≡ later ++ holding c r ∷ earlier → LateWithoutPlan (account_of earlier t) c r
@@ -262,7 +262,7 @@ module _ {K : Type 0} (demand : K → Demand) (es : List Event) (t : Table K) (h
   }
 
   -- with the answers for all rows it is the promise with theirs
-  pub answered_promise : (xs : List Answer) → Answered (loads (ranked (rows_at demand t))) xs → Promise demand es t (bounds_of xs) (vectors_of xs)
+  pub answered_promise : (xs : List Answer) → Answered (loads (ranking (rows_at demand t))) xs → Promise demand es t (bounds_of xs) (vectors_of xs)
   answered_promise xs answered =
       promise (bounds_of xs) (vectors_of xs)
       (subst (λ (cs : List Claim). Bounds (system (loads cs)) (length a.rows) (bounds_of xs) (vectors_of xs)) same_ranks

@@ -7,11 +7,11 @@ use Rattle.analysis.specs.Candidates.{claims}
 use Rattle.demand.specs.Refusals.{first}
 use Rattle.analysis.specs.Judge.{JudgementRefused}
 use Rattle.analysis.specs.Ranks.{Claim}
-use Rattle.table.specs.declared.HoldRefusal.{HoldRefusal}
-use Rattle.table.specs.declared.HoldRefusal.TheVariants.{NoPlace}
+use Rattle.table.specs.declared.refusals.HoldRefusal.{HoldRefusal}
+use Rattle.table.specs.declared.refusals.HoldRefusal.TheVariants.{NoPlace}
 use Rattle.table.specs.Account.{Account, row_checks, hold_checks, hold_number, hold_late, Refused}
 use Rattle.table.specs.Agreement.{AgreesWith}
-use Rattle.table.specs.declared.State.TheVariants.{Free}
+use Rattle.table.specs.declared.state.State.TheVariants.{Free}
 use Rattle.table.specs.declared.Table.{Table}
 use Rattle.table.specs.Places.{PlaceWhere}
 use Rattle.table.proofs.Lookups.{tasks, place_free}

@@ -8,21 +8,21 @@ use Rattle.std.specs.Coded.{Coded-set, coded_bool, coded_ℕ}
 use Rattle.analysis.specs.declared.judgement.JudgeRefusal.{JudgeRefusal}
 use Rattle.analysis.specs.declared.answers.Answers.{Answers}
 use Rattle.analysis.specs.Judge.{Answered, answers_of}
-use Rattle.analysis.specs.Ranks.{Claim, loads, ranked}
+use Rattle.analysis.specs.Ranks.{Claim, loads, ranking}
 use Rattle.demand.specs.Demand.{Demand}
-use Rattle.table.specs.declared.Hold.{Hold}
-use Rattle.table.specs.declared.HoldRefusal.{HoldRefusal}
-use Rattle.table.specs.declared.SpendRefusal.{SpendRefusal}
-use Rattle.table.specs.declared.SpendRefusal.TheVariants.{NotHeld}
+use Rattle.table.specs.declared.hold.Hold.{Hold}
+use Rattle.table.specs.declared.refusals.HoldRefusal.{HoldRefusal}
+use Rattle.table.specs.declared.refusals.SpendRefusal.{SpendRefusal}
+use Rattle.table.specs.declared.refusals.SpendRefusal.TheVariants.{NotHeld}
 use Rattle.table.specs.declared.Table.{Table}
-use Rattle.table.specs.declared.WithdrawRefusal.{WithdrawRefusal}
+use Rattle.table.specs.declared.refusals.WithdrawRefusal.{WithdrawRefusal}
 use Rattle.table.specs.Account.{Accepted, Account, Bears, Holds, Spends, Withdraws, bears, has_number, number_of, unspent, with_row}
 use Rattle.table.specs.Agreement.{AgreesWith, NoneNamed}
 use Rattle.table.specs.History.{Continues, HasSomeHistory, account_of}
 use Rattle.table.specs.Places.{has_held, is_held, HeldHere}
 use Rattle.table.specs.Runs.{keeping, releasing}
-use Rattle.table.specs.declared.State.{State}
-use Rattle.table.specs.declared.State.TheVariants.{Free, Held, Kept}
+use Rattle.table.specs.declared.state.State.{State}
+use Rattle.table.specs.declared.state.State.TheVariants.{Free, Held, Kept}
 use Rattle.table.proofs.Checks.{is_not_unspent, spent_applies}
 use Rattle.table.proofs.Histories.{continues}
 use Rattle.table.proofs.Lookups.{within}
@@ -140,7 +140,7 @@ module _ {K : Type 0} (demand : K → Demand) (t u : Table K) where
         (∥∥₁_elim known (Coded-set coded_ℕ _ _) (λ k. ap (λ (x : Hold). x.row) (f k.account k.agrees).1.1)))
 
 -- what is answered for all rows is never an error
-pub answers_all : {K : Type 0} (demand : K → Demand) (t : Table K) (r : Result Answers JudgeRefusal) → ((a : Account) → AgreesWith demand a t → (all : Answers) × (r ≡ Ok all) × Answered (loads (ranked a.rows)) (answers_of all)) → IsAccounted demand t → IsOk r
+pub answers_all : {K : Type 0} (demand : K → Demand) (t : Table K) (r : Result Answers JudgeRefusal) → ((a : Account) → AgreesWith demand a t → (all : Answers) × (r ≡ Ok all) × Answered (loads (ranking a.rows)) (answers_of all)) → IsAccounted demand t → IsOk r
 answers_all demand t r f known =
     ∥∥₁_elim known (Coded-set coded_bool _ _) (λ k. subst (λ x. IsOk x) (sym (f k.account k.agrees).1) refl)
 

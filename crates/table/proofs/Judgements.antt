@@ -12,10 +12,10 @@ use Rattle.analysis.specs.Candidates.{claims_of, claims}
 use Rattle.analysis.specs.declared.Answer.{Answer}
 use Rattle.analysis.specs.declared.Row.{Row}
 use Rattle.analysis.specs.Plans.{Bounds, NoPlan}
-use Rattle.analysis.specs.Ranks.{Claim, Reordered, next, through, ranked, rows, loads_of, loads, at, system, system_of}
+use Rattle.analysis.specs.Ranks.{Claim, Reordered, next, through, ranking, rows, loads_of, loads, at, system, system_of}
 use Rattle.table.specs.declared.Table.{Table}
 use Rattle.table.specs.Account.{Account, has_number, hold_checks, AllInTime, BoundsAnswered}
-use Rattle.table.specs.declared.BoundRefusal.TheVariants.{NoSuchRow}
+use Rattle.table.specs.declared.refusals.BoundRefusal.TheVariants.{NoSuchRow}
 use Rattle.table.specs.Agreement.{AgreesWith}
 use Rattle.table.specs.Places.{answer_of}
 use Rattle.analysis.specs.declared.answers.Answers.{Answers}
@@ -78,7 +78,7 @@ module _ {K : Type 0} {demand : K → Demand} {a : Account} (t : Table K) (agree
   rows_reordered : Reordered a.rows (claims demand (tasks t) None)
   rows_reordered = subst (Reordered a.rows) (sym same_claims) (reordered_back agrees.rows_are)
 
-  same_ranked : ranked (claims demand (tasks t) None) ≡ ranked a.rows
+  same_ranked : ranking (claims demand (tasks t) None) ≡ ranking a.rows
   same_ranked = any_order a.rows (claims demand (tasks t) None) rows_reordered agrees.sound.priorities
 
   newcomer_reordered : (u : Task K) → Reordered (claim_of_task u ∷ a.rows) (claims demand (tasks t) (Some u))
@@ -87,27 +87,27 @@ module _ {K : Type 0} {demand : K → Demand} {a : Account} (t : Table K) (agree
       subst (Reordered (claim_of_task u ∷ a.rows)) (sym (claims_append demand (tasks t) (Some u ∷ [])))
       (reordered_back (through front (next agrees.rows_are)))
 
-  newcomer_ranked : (u : Task K) → first (hold_checks a (claim_of_task u)) ≡ 0 → ranked (claims demand (tasks t) (Some u)) ≡ ranked (claim_of_task u ∷ a.rows)
+  newcomer_ranked : (u : Task K) → first (hold_checks a (claim_of_task u)) ≡ 0 → ranking (claims demand (tasks t) (Some u)) ≡ ranking (claim_of_task u ∷ a.rows)
   newcomer_ranked u passes =
       any_order (claim_of_task u ∷ a.rows) (claims demand (tasks t) (Some u)) (newcomer_reordered u)
       ((passed a (claim_of_task u) passes).priority, agrees.sound.priorities)
 
   -- a newcomer that passes the checks is late or in time with the account's rows as with the table's
-  pub newcomer_late : (u : Task K) → first (hold_checks a (claim_of_task u)) ≡ 0 → (n : ℕ) → SomeLate (claims demand (tasks t) (Some u)) n → LateRow (loads (ranked (claim_of_task u ∷ a.rows))) n
+  pub newcomer_late : (u : Task K) → first (hold_checks a (claim_of_task u)) ≡ 0 → (n : ℕ) → SomeLate (claims demand (tasks t) (Some u)) n → LateRow (loads (ranking (claim_of_task u ∷ a.rows))) n
   newcomer_late u passes n late = subst (λ (cs : List Claim). LateRow (loads cs) n) (newcomer_ranked u passes) late.first
 
   pub newcomer_in_time : (u : Task K) → first (hold_checks a (claim_of_task u)) ≡ 0 → (answers : Answers) → Judged (claims demand (tasks t) (Some u)) (Ok answers) → AllInTime (claim_of_task u ∷ a.rows)
   newcomer_in_time u passes answers judged =
-      let count : length (loads (ranked (claims demand (tasks t) (Some u)))) ≡ length (claim_of_task u ∷ a.rows) = length_ranks (claims demand (tasks t) (Some u)) ∙ sym (length_reordered (newcomer_reordered u)) in
+      let count : length (loads (ranking (claims demand (tasks t) (Some u)))) ≡ length (claim_of_task u ∷ a.rows) = length_ranks (claims demand (tasks t) (Some u)) ∙ sym (length_reordered (newcomer_reordered u)) in
       record {
         R = bounds_of (answers_of answers);
         V = vectors_of (answers_of answers);
         bounds = subst (λ (n : ℕ). Bounds (system_of (claim_of_task u ∷ a.rows)) n (bounds_of (answers_of answers)) (vectors_of (answers_of answers))) count
-            (subst (λ (cs : List Claim). Bounds (system (loads cs)) (length (loads (ranked (claims demand (tasks t) (Some u))))) (bounds_of (answers_of answers)) (vectors_of (answers_of answers))) (newcomer_ranked u passes) judged.answered.bounds);
+            (subst (λ (cs : List Claim). Bounds (system (loads cs)) (length (loads (ranking (claims demand (tasks t) (Some u))))) (bounds_of (answers_of answers)) (vectors_of (answers_of answers))) (newcomer_ranked u passes) judged.answered.bounds);
       }
 
   -- and all rows are answered, the newcomer among them
-  pub newcomer_listed : (u : Task K) → first (hold_checks a (claim_of_task u)) ≡ 0 → (answers : Answers) → Judged (claims demand (tasks t) (Some u)) (Ok answers) → Answered (loads (ranked (claim_of_task u ∷ a.rows))) (answers_of answers)
+  pub newcomer_listed : (u : Task K) → first (hold_checks a (claim_of_task u)) ≡ 0 → (answers : Answers) → Judged (claims demand (tasks t) (Some u)) (Ok answers) → Answered (loads (ranking (claim_of_task u ∷ a.rows))) (answers_of answers)
   newcomer_listed u passes answers judged = subst (λ (cs : List Claim). Answered (loads cs) (answers_of answers)) (newcomer_ranked u passes) judged.answered
 
   -- twelve rows at most
@@ -132,17 +132,17 @@ module _ {K : Type 0} {demand : K → Demand} {a : Account} (t : Table K) (agree
       (subst (λ (cs : List Claim). NoPlan (system (loads cs))) same_ranked some.1.no_plan)
 
   -- all rows are answered
-  pub all_listed : (r : Result Answers JudgeRefusal) → Judged (claims demand (tasks t) None) r → (all : Answers) × (r ≡ Ok all) × Answered (loads (ranked a.rows)) (answers_of all)
+  pub all_listed : (r : Result Answers JudgeRefusal) → Judged (claims demand (tasks t) None) r → (all : Answers) × (r ≡ Ok all) × Answered (loads (ranking a.rows)) (answers_of all)
   all_listed (Ok all) judged = (all, refl, subst (λ (cs : List Claim). Answered (loads cs) (answers_of all)) same_ranked judged.answered)
   all_listed (Err e) judged = absurd (never_refused (judge_number e) (judge_late e) judged)
 
 -- what is found among the answers for all rows is what the account answers
-module _ (a : Account) (answers : List Answer) (ranks : Answered (loads (ranked a.rows)) answers) (n : ℕ) where
+module _ (a : Account) (answers : List Answer) (ranks : Answered (loads (ranking a.rows)) answers) (n : ℕ) where
   pub bound_found : (r : Option (ℕ × ℕ)) → r ≡ answer_of n answers → BoundsAnswered a n (ok_or r NoSuchRow)
   bound_found (Some p) found =
       let there = answer_at n p.0 p.1 answers (sym found) in
-      let count : length (loads (ranked a.rows)) ≡ length a.rows = length_ranks a.rows in
-      let inside : there.rank < length (loads (ranked a.rows)) = let l = there.within in let e = ranks.count in omega arith in
+      let count : length (loads (ranking a.rows)) ≡ length a.rows = length_ranks a.rows in
+      let inside : there.rank < length (loads (ranking a.rows)) = let l = there.within in let e = ranks.count in omega arith in
       record {
         rank = there.rank;
         within = omega arith;
@@ -154,12 +154,12 @@ module _ (a : Account) (answers : List Answer) (ranks : Answered (loads (ranked 
         vector = there.vector;
       }
   bound_found None found =
-      let count : length (loads (ranked a.rows)) ≡ length a.rows = length_ranks a.rows in
+      let count : length (loads (ranking a.rows)) ≡ length a.rows = length_ranks a.rows in
       let ranked_count = length_ranked a.rows in
       let many = ranks.count in
       absent_applies (has_number n a.rows)
       (number_reordered n (highest_first a.rows).reordered
-      ∙ none_numbered n (rows (ranked a.rows)) (ranked a.rows) (λ k l e. no_answer_at n answers (sym found) k (omega arith) ((ranks.rows k (omega arith)).number ∙ e)))
+      ∙ none_numbered n (rows (ranking a.rows)) (ranking a.rows) (λ k l e. no_answer_at n answers (sym found) k (omega arith) ((ranks.rows k (omega arith)).number ∙ e)))
 
 -- an account has no row of a number that is not found among the answers
 pub no_bound_found : {K : Type 0} {demand : K → Demand} {a : Account} (t : Table K) → AgreesWith demand a t → (answers : Answers) → Judged (claims demand (tasks t) None) (Ok answers) → (n : ℕ) → answer_of n (answers_of answers) ≡ None → has_number n a.rows ≡ false

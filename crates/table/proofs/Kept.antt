@@ -5,7 +5,7 @@ use Rattle.demand.specs.Demand.{Lawful}
 use Rattle.demand.specs.Refusals.{first}
 use Rattle.analysis.specs.Ranks.{Claim}
 use Rattle.analysis.proofs.Removal.{removal_keeps_in_time}
-use Rattle.table.specs.declared.Hold.{Hold}
+use Rattle.table.specs.declared.hold.Hold.{Hold}
 use Rattle.table.specs.Account.{Account, Bears, AllInTime, fresh, number_of, has_number, hold_checks, unspent, held, spent, without, with_row, with_kept, with_withdrawn}
 use Rattle.table.specs.Agreement.{Sound, OwnHolds}
 use Rattle.table.specs.Runs.{Event, holding, keeping, releasing, withdrawing, bounding, Step, after_all, Run}

@@ -16,8 +16,8 @@ use Rattle.demand.specs.Demand.{Demand}
 use Rattle.analysis.specs.declared.Answer.{Answer}
 use Rattle.analysis.specs.declared.Task.{Task}
 use Rattle.analysis.specs.Candidates.{claims_of}
-use Rattle.table.specs.declared.State.{State}
-use Rattle.table.specs.declared.State.TheVariants.{Free}
+use Rattle.table.specs.declared.state.State.{State}
+use Rattle.table.specs.declared.state.State.TheVariants.{Free}
 use Rattle.table.specs.declared.Table.{Table}
 use Rattle.table.specs.Account.{Account, any_above, has_number, has_priority}
 use Rattle.table.specs.Agreement.{AgreesWith, StandsAt}

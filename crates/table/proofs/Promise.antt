@@ -3,14 +3,14 @@ use Rattle.std.proofs.Common.{◌≡◌, ℕ, zero, suc, ◌<◌, cond, eqb, Lis
 use Rattle.demand.specs.Refusals.{first}
 use Rattle.analysis.specs.declared.Row.{Row}
 use Rattle.analysis.specs.Plans.{Bounds}
-use Rattle.analysis.specs.Ranks.{Claim, ranked, rows, loads_of, loads, at, system_of, Reordered, same, next, swapped, through}
+use Rattle.analysis.specs.Ranks.{Claim, ranking, rows, loads_of, loads, at, system_of, Reordered, same, next, swapped, through}
 use Rattle.analysis.proofs.Best.{late_no_plan}
 use Rattle.analysis.proofs.Order.{highest_first}
 use Rattle.analysis.proofs.Ranked.{length_ranked}
-use Rattle.table.specs.declared.Hold.{Hold}
-use Rattle.table.specs.declared.HoldRefusal.{HoldRefusal}
-use Rattle.table.specs.declared.BoundRefusal.{BoundRefusal}
-use Rattle.table.specs.declared.BoundRefusal.TheVariants.{NoSuchRow}
+use Rattle.table.specs.declared.hold.Hold.{Hold}
+use Rattle.table.specs.declared.refusals.HoldRefusal.{HoldRefusal}
+use Rattle.table.specs.declared.refusals.BoundRefusal.{BoundRefusal}
+use Rattle.table.specs.declared.refusals.BoundRefusal.TheVariants.{NoSuchRow}
 use Rattle.table.specs.Account.{Account, number_of, has_number, hold_number, BoundOf, bound_checks, bound_number}
 use Rattle.table.specs.Agreement.{Sound, DistinctNumbers}
 use Rattle.table.specs.Runs.{Event, holding, keeping, releasing, withdrawing, bounding, Step, after, Run, LateWithoutPlan}
@@ -60,9 +60,9 @@ rank_among all c [] m = absurd m
 rank_among all c (d ∷ ds) (inl e) = (0, omega arith, e)
 rank_among all c (d ∷ ds) (inr m) = let rest = rank_among all c ds m in (suc rest.0, omega (arith, rest.1), rest.2)
 
-pub rank_of_row : (cs : List Claim) (c : Claim) → Among c cs → (k : ℕ) × (k < length cs) × ((at (loads (ranked cs)) k).claim ≡ c)
+pub rank_of_row : (cs : List Claim) (c : Claim) → Among c cs → (k : ℕ) × (k < length cs) × ((at (loads (ranking cs)) k).claim ≡ c)
 rank_of_row cs c m =
-    let found = rank_among (rows (ranked cs)) c (ranked cs) (among_reordered c (highest_first cs).reordered m) in
+    let found = rank_among (rows (ranking cs)) c (ranking cs) (among_reordered c (highest_first cs).reordered m) in
     let same_length = length_ranked cs in
     (found.0, omega (arith, found.1), found.2)
 
@@ -86,22 +86,22 @@ is_late e q = grind arith
 
 module _ (a : Account) (s : Sound a) where
   -- bound and vector of a row are determined
-  pub bound_once : (R V : ℕ → ℕ) → Bounds (system_of a.rows) (length a.rows) R V → (k : ℕ) → k < length a.rows → (p : ℕ × ℕ) → BoundOf a.rows (at (loads (ranked a.rows)) k).claim.row.number p.0 p.1 → (p.0 ≡ R k) × (p.1 ≡ V k)
+  pub bound_once : (R V : ℕ → ℕ) → Bounds (system_of a.rows) (length a.rows) R V → (k : ℕ) → k < length a.rows → (p : ℕ × ℕ) → BoundOf a.rows (at (loads (ranking a.rows)) k).claim.row.number p.0 p.1 → (p.0 ≡ R k) × (p.1 ≡ V k)
   bound_once R V bounds k h p b =
       let few = length_ranked a.rows in
       let within = b.within in
-      let rank : b.rank ≡ k = same_rank (rows (ranked a.rows)) (ranked a.rows) (numbers_reordered (highest_first a.rows).reordered s.numbers) b.rank k (omega arith) (omega arith) b.number in
+      let rank : b.rank ≡ k = same_rank (rows (ranking a.rows)) (ranking a.rows) (numbers_reordered (highest_first a.rows).reordered s.numbers) b.rank k (omega arith) (omega arith) b.number in
       let grow = needs_grow a.rows s.lawful in (
         b.bound ∙ ap b.R rank ∙ same_bounds (system_of a.rows) grow (length a.rows) b.R b.V R V b.bounds bounds k h,
         b.vector ∙ ap b.V rank ∙ same_vectors (system_of a.rows) grow (length a.rows) b.R b.V R V b.bounds bounds k h,
       )
 
   -- and a row that has a rank is there
-  pub bound_given : (k : ℕ) → k < length a.rows → (e : BoundRefusal) → first (bound_checks a (at (loads (ranked a.rows)) k).claim.row.number) ≡ bound_number e → ⊥
+  pub bound_given : (k : ℕ) → k < length a.rows → (e : BoundRefusal) → first (bound_checks a (at (loads (ranking a.rows)) k).claim.row.number) ≡ bound_number e → ⊥
   bound_given k h NoSuchRow b =
       let few = length_ranked a.rows in
-      let n : ℕ = (at (loads (ranked a.rows)) k).claim.row.number in
-      none_among n (ranked a.rows) (named_reordered n (highest_first a.rows).reordered (none_named n a.rows (is_absent (has_number n a.rows) b))) (at (loads (ranked a.rows)) k).claim (at_among (rows (ranked a.rows)) (ranked a.rows) k (omega arith)) refl
+      let n : ℕ = (at (loads (ranking a.rows)) k).claim.row.number in
+      none_among n (ranking a.rows) (named_reordered n (highest_first a.rows).reordered (none_named n a.rows (is_absent (has_number n a.rows) b))) (at (loads (ranking a.rows)) k).claim (at_among (rows (ranking a.rows)) (ranking a.rows) k (omega arith)) refl
 
   pub late_only : (c : Claim) (r : Result Hold HoldRefusal) (b : Account) → Step a (holding c r) b → LateWithoutPlan a c r
   late_only c (Ok h) b step passes =

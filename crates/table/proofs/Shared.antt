@@ -9,13 +9,13 @@ use Rattle.analysis.specs.declared.Row.{Row}
 use Rattle.analysis.specs.declared.Task.{Task}
 use Rattle.analysis.specs.Candidates.{claims_of}
 use Rattle.analysis.specs.Plans.{Bounds, NoPlan}
-use Rattle.analysis.specs.Ranks.{Claim, Reordered, same, next, swapped, through, NoneAt, ranked, rows, loads_of, loads, system_of}
+use Rattle.analysis.specs.Ranks.{Claim, Reordered, same, next, swapped, through, NoneAt, ranking, rows, loads_of, loads, system_of}
 use Rattle.analysis.proofs.Best.{Grows, is_plan}
 use Rattle.analysis.proofs.Lawful.{AllLawful, grows, lawful_loads}
 use Rattle.analysis.proofs.Order.{highest_first, lawful_reordered, reordered_append}
 use Rattle.analysis.proofs.Ranked.{length_ranked}
-use Rattle.table.specs.declared.HoldRefusal.{HoldRefusal}
-use Rattle.table.specs.declared.State.{State}
+use Rattle.table.specs.declared.refusals.HoldRefusal.{HoldRefusal}
+use Rattle.table.specs.declared.state.State.{State}
 use Rattle.table.specs.Account.{Account, number_of, has_number, has_priority, no_byte, hold_checks, hold_number, unspent, AllInTime}
 use Rattle.table.specs.Agreement.{NoneNamed, DistinctNumbers, LawfulRows, StandsAt}
 use Rattle.table.proofs.Parts.{all_lawful, none_named, none_at}
@@ -109,19 +109,19 @@ passed a c e =
           (or_parts (eqb c.row.deadline 0) (ltb c.demand.spacing c.row.deadline) none_of.1.1.1.0).1;
     }
 
-pub ranked_lawful : (cs : List Claim) → LawfulRows cs → AllLawful (ranked cs)
+pub ranked_lawful : (cs : List Claim) → LawfulRows cs → AllLawful (ranking cs)
 ranked_lawful cs h = lawful_reordered (highest_first cs).reordered (all_lawful cs h)
 
 pub needs_grow : (cs : List Claim) → LawfulRows cs → Grows (system_of cs)
-needs_grow cs h = grows (loads (ranked cs)) (lawful_loads (rows (ranked cs)) (ranked cs) (ranked_lawful cs h))
+needs_grow cs h = grows (loads (ranking cs)) (lawful_loads (rows (ranking cs)) (ranking cs) (ranked_lawful cs h))
 
 length_loads : (all : List Row) (cs : List Claim) → length (loads_of all cs) ≡ length cs
 length_loads all [] = refl
 length_loads all (c ∷ cs) = ap suc (length_loads all cs)
 
 -- as many ranks as rows
-pub length_ranks : (cs : List Claim) → length (loads (ranked cs)) ≡ length cs
-length_ranks cs = length_loads (rows (ranked cs)) (ranked cs) ∙ length_ranked cs
+pub length_ranks : (cs : List Claim) → length (loads (ranking cs)) ≡ length cs
+length_ranks cs = length_loads (rows (ranking cs)) (ranking cs) ∙ length_ranked cs
 
 -- bounds for all ranks
 pub all_ranks : (cs : List Claim) (t : AllInTime cs) → Bounds (system_of cs) (system_of cs).ranks t.R t.V

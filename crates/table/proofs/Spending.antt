@@ -8,11 +8,11 @@ use Rattle.demand.specs.Demand.{Demand}
 use Rattle.analysis.specs.declared.Task.{Task}
 use Rattle.analysis.specs.Candidates.{claims_of}
 use Rattle.analysis.specs.Ranks.{Claim}
-use Rattle.table.specs.declared.Hold.{Hold}
-use Rattle.table.specs.declared.SpendRefusal.{SpendRefusal}
-use Rattle.table.specs.declared.SpendRefusal.TheVariants.{NotHeld}
-use Rattle.table.specs.declared.State.{State}
-use Rattle.table.specs.declared.State.TheVariants.{Free, Held, Kept}
+use Rattle.table.specs.declared.hold.Hold.{Hold}
+use Rattle.table.specs.declared.refusals.SpendRefusal.{SpendRefusal}
+use Rattle.table.specs.declared.refusals.SpendRefusal.TheVariants.{NotHeld}
+use Rattle.table.specs.declared.state.State.{State}
+use Rattle.table.specs.declared.state.State.TheVariants.{Free, Held, Kept}
 use Rattle.table.specs.declared.Table.{Table}
 use Rattle.demand.specs.Refusals.{first}
 use Rattle.table.specs.Account.{Account, Bears, has_number, unspent, held, spent, spend_checks, Spends}

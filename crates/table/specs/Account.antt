@@ -7,16 +7,16 @@ use Rattle.demand.specs.Refusals.{first}
 use Rattle.analysis.specs.declared.answers.Answers.{Answers}
 use Rattle.analysis.specs.Judge.{Answered, LateRow, answers_of}
 use Rattle.analysis.specs.Plans.{Bounds}
-use Rattle.analysis.specs.Ranks.{Claim, ranked, loads, at, system_of}
-use Rattle.table.specs.declared.Hold.{Hold}
-use Rattle.table.specs.declared.HoldRefusal.{HoldRefusal}
-use Rattle.table.specs.declared.HoldRefusal.TheVariants.{Number, Priority, Suspension, Deadline, Section, NoPlace, Late}
-use Rattle.table.specs.declared.SpendRefusal.{SpendRefusal}
-use Rattle.table.specs.declared.SpendRefusal.TheVariants.{NotHeld}
-use Rattle.table.specs.declared.WithdrawRefusal.{WithdrawRefusal}
-use Rattle.table.specs.declared.WithdrawRefusal.TheVariants.{NoSuchRow as WithdrawNoSuchRow, NotKept}
-use Rattle.table.specs.declared.BoundRefusal.{BoundRefusal}
-use Rattle.table.specs.declared.BoundRefusal.TheVariants.{NoSuchRow as BoundNoSuchRow}
+use Rattle.analysis.specs.Ranks.{Claim, ranking, loads, at, system_of}
+use Rattle.table.specs.declared.hold.Hold.{Hold}
+use Rattle.table.specs.declared.refusals.HoldRefusal.{HoldRefusal}
+use Rattle.table.specs.declared.refusals.HoldRefusal.TheVariants.{Number, Priority, Suspension, Deadline, Section, NoPlace, Late}
+use Rattle.table.specs.declared.refusals.SpendRefusal.{SpendRefusal}
+use Rattle.table.specs.declared.refusals.SpendRefusal.TheVariants.{NotHeld}
+use Rattle.table.specs.declared.refusals.WithdrawRefusal.{WithdrawRefusal}
+use Rattle.table.specs.declared.refusals.WithdrawRefusal.TheVariants.{NoSuchRow as WithdrawNoSuchRow, NotKept}
+use Rattle.table.specs.declared.refusals.BoundRefusal.{BoundRefusal}
+use Rattle.table.specs.declared.refusals.BoundRefusal.TheVariants.{NoSuchRow as BoundNoSuchRow}
 
 -- the numbers that a hold bears: of its table and of its row
 pub record Bears : Type 0 where
@@ -129,7 +129,7 @@ pub record AllInTime (cs : List Claim) : Type 0 where
 -- such row is named.
 pub record Refused (a : Account) (c : Claim) (e : HoldRefusal) : Type 0 where
   pub by_number : first (hold_checks a c) ≡ cond (hold_number e == 11) 0 (hold_number e)
-  pub late : hold_number e ≡ 11 → LateRow (loads (ranked (c ∷ a.rows))) (hold_late e)
+  pub late : hold_number e ≡ 11 → LateRow (loads (ranking (c ∷ a.rows))) (hold_late e)
 
 -- the account with one row more, held
 abbrev pub with_row : Account → Claim → Account
@@ -159,7 +159,7 @@ hold_part (Err e) = Err e
 
 -- the same, where all rows are answered too, the new one among them
 abbrev pub HoldsAnswered : Account → Claim → Result (Hold × Answers) HoldRefusal → Account → Type 0
-HoldsAnswered a c (Ok p) b = Holds a c (Ok p.0) b × Answered (loads (ranked (c ∷ a.rows))) (answers_of p.1)
+HoldsAnswered a c (Ok p) b = Holds a c (Ok p.0) b × Answered (loads (ranking (c ∷ a.rows))) (answers_of p.1)
 HoldsAnswered a c (Err e) b = Holds a c (Err e) b
 
 -- a hold bears these two numbers
@@ -224,7 +224,7 @@ Withdraws a n (Err e) b = (first (withdraw_checks a n) ≡ withdraw_number e) ×
 pub record BoundOf (cs : List Claim) (n t v : ℕ) : Type 0 where
   pub rank : ℕ
   pub within : rank < length cs
-  pub number : (at (loads (ranked cs)) rank).claim.row.number ≡ n
+  pub number : (at (loads (ranking cs)) rank).claim.row.number ≡ n
   pub R : ℕ → ℕ
   pub V : ℕ → ℕ
   pub bounds : Bounds (system_of cs) (length cs) R V

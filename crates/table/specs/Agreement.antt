@@ -7,8 +7,8 @@ use Rattle.analysis.specs.declared.Task.{Task}
 use Rattle.analysis.specs.Candidates.{claims_of}
 use Rattle.analysis.specs.Ranks.{Claim, Reordered, DistinctPriorities}
 use Rattle.table.specs.declared.Table.{Table}
-use Rattle.table.specs.declared.State.{State}
-use Rattle.table.specs.declared.State.TheVariants.{Free, Held, Kept}
+use Rattle.table.specs.declared.state.State.{State}
+use Rattle.table.specs.declared.state.State.TheVariants.{Free, Held, Kept}
 use Rattle.table.specs.Account.{Account, Bears, number_of, has_number, unspent, held, AllInTime}
 
 -- no row of these has the number n
@@ -67,3 +67,12 @@ module _ {K : Type 0} where
   -- a table agrees with an account
   abbrev pub AgreesWith : (K → Demand) → Account → Table K → Type 0
   AgreesWith demand a t = Agrees demand a t.number t.states t.places.now
+
+  -- The answer is what any account that agrees with the table t says of it.
+  abbrev pub MatchesAccount : (K → Demand) → (Account → Type 0) → Table K → Type 0
+  MatchesAccount demand says t = (a : Account) → AgreesWith demand a t → says a
+
+  -- A call makes the table t the table u. It is answered as any account that agrees with t answers it, where `answers a b` says that the account a
+  -- answers so and is b after it; and that account agrees with u.
+  abbrev pub FollowsAccount : (K → Demand) → (Account → Account → Type 0) → Table K → Table K → Type 0
+  FollowsAccount demand answers t u = (a : Account) → AgreesWith demand a t → (b : Account) × answers a b × AgreesWith demand b u

@@ -7,11 +7,11 @@ use Rattle.demand.specs.Demand.{Demand}
 use Rattle.analysis.specs.declared.Task.{Task}
 use Rattle.analysis.specs.Candidates.{claims_of}
 use Rattle.analysis.specs.Plans.{BestPlan}
-use Rattle.analysis.specs.Ranks.{Claim, Reordered, ranked, loads, at, system_of}
-use Rattle.table.specs.declared.BoundRefusal.{BoundRefusal}
-use Rattle.table.specs.declared.Hold.{Hold}
-use Rattle.table.specs.declared.HoldRefusal.{HoldRefusal}
-use Rattle.table.specs.declared.State.TheVariants.{Free, Held, Kept}
+use Rattle.analysis.specs.Ranks.{Claim, Reordered, ranking, loads, at, system_of}
+use Rattle.table.specs.declared.refusals.BoundRefusal.{BoundRefusal}
+use Rattle.table.specs.declared.hold.Hold.{Hold}
+use Rattle.table.specs.declared.refusals.HoldRefusal.{HoldRefusal}
+use Rattle.table.specs.declared.state.State.TheVariants.{Free, Held, Kept}
 use Rattle.table.specs.declared.Table.{Table}
 use Rattle.table.specs.Account.{Account, fresh, number_of}
 use Rattle.table.specs.Agreement.{AgreesWith}
@@ -69,7 +69,7 @@ module _ {K : Type 0} (demand : K → Demand) where
   -- c has the rank k among the rows of the table, 0 being the highest
   pub record HasRank (t : Table K) (c : Claim) (k : ℕ) : Type 0 where
     pub within : k < length (rows_at t)
-    pub claim : (at (loads (ranked (rows_at t))) k).claim ≡ c
+    pub claim : (at (loads (ranking (rows_at t))) k).claim ≡ c
 
   -- What is promised of a table and its calls, with the bound R k and the vector V k of the row of each rank k.
   pub record Promise (es : List Event) (t : Table K) (R V : ℕ → ℕ) : Type 0 where

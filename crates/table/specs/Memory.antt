@@ -2,8 +2,8 @@
 -- How to read it: t is the table before the call and u the one after it; `places.now` is the row memory.
 use Rattle.std.specs.Prelude.{◌≡◌, ℕ, ◌<◌, List, length, get_or, drop, None, Option, slice_index_or, slice_set}
 use Rattle.analysis.specs.declared.Task.{Task}
-use Rattle.table.specs.declared.State.{State}
-use Rattle.table.specs.declared.State.TheVariants.{Free}
+use Rattle.table.specs.declared.state.State.{State}
+use Rattle.table.specs.declared.state.State.TheVariants.{Free}
 use Rattle.table.specs.declared.Table.{Table}
 
 -- the first twelve places are empty, and those behind them are as they were

@@ -6,11 +6,11 @@ use Rattle.demand.specs.Demand.{Lawful}
 use Rattle.demand.specs.Refusals.{first}
 use Rattle.analysis.specs.Plans.{NoPlan}
 use Rattle.analysis.specs.Ranks.{Claim, system_of}
-use Rattle.table.specs.declared.Hold.{Hold}
-use Rattle.table.specs.declared.HoldRefusal.{HoldRefusal}
-use Rattle.table.specs.declared.SpendRefusal.{SpendRefusal}
-use Rattle.table.specs.declared.WithdrawRefusal.{WithdrawRefusal}
-use Rattle.table.specs.declared.BoundRefusal.{BoundRefusal}
+use Rattle.table.specs.declared.hold.Hold.{Hold}
+use Rattle.table.specs.declared.refusals.HoldRefusal.{HoldRefusal}
+use Rattle.table.specs.declared.refusals.SpendRefusal.{SpendRefusal}
+use Rattle.table.specs.declared.refusals.WithdrawRefusal.{WithdrawRefusal}
+use Rattle.table.specs.declared.refusals.BoundRefusal.{BoundRefusal}
 use Rattle.table.specs.Account.{Account, number_of, hold_number, hold_checks, Holds, Spends, Withdraws, BoundsAnswered, with_row, with_kept, with_released, with_withdrawn}
 
 -- a call with what it answered

@@ -2,9 +2,9 @@
 ghost use Rattle.std.specs.Prelude.{◌≡◌, ℕ, min, [], length, Some, None, MatchResult};
 ghost use Rattle.demand.specs.Refusals.{first};
 ghost use Rattle.analysis.specs.Judge.{judge_number, judge_late};
-ghost use Rattle.table.specs.declared.State.TheVariants.{Free, Held, Kept};
+ghost use Rattle.table.specs.declared.state.State.TheVariants.{Free, Held, Kept};
 ghost use Rattle.table.specs.Account.{Account, fresh, no_byte, row_checks, check_number, hold_number, hold_late, Holds, HoldsAnswered, hold_part, Spends, with_kept, with_released, Withdraws, BoundsAnswered};
-ghost use Rattle.table.specs.declared.SpendRefusal.TheVariants.{NotHeld};
+ghost use Rattle.table.specs.declared.refusals.SpendRefusal.TheVariants.{NotHeld};
 ghost use Rattle.table.specs.Agreement.{AgreesWith};
 ghost use Rattle.table.specs.Memory.{Emptied, SameTable, PutAt, ChangedAt, MarkedAt};
 ghost use Rattle.table.specs.Places.{Uses, HeldHere};
@@ -17,18 +17,6 @@ use super::{
 };
 use analysis::{Answers, JudgeRefusal, Row, Task, judge};
 use demand::Kind;
-
-// A judgement that goes against a newcomer.
-impl From<JudgeRefusal> for HoldRefusal {
-    ghost from_gives = { λ j r. (hold_number r ≡ judge_number j) × (hold_late r ≡ judge_late j) };
-
-    fn from(refusal: JudgeRefusal) -> HoldRefusal {
-        match refusal {
-            JudgeRefusal::TooMany => HoldRefusal::NoPlace,
-            JudgeRefusal::Late(number) => HoldRefusal::Late(number),
-        }
-    }
-}
 
 // Whether the number is outside 1 to 255.
 fn is_no_byte(number: u32) -> bool

@@ -8,15 +8,6 @@ use super::{MOST_ROWS, State, Table};
 use analysis::{Answer, LOCKS, Task};
 use demand::Kind;
 
-impl State {
-    // Whether the row of this number stands there.
-    pub(crate) fn names(self, number: u32) -> bool
-        ensures { result ≡ names self number }
-    {
-        matches!(self, State::Held(row) | State::Kept(row) if row == number)
-    }
-}
-
 // Whether a section is longer than the longest job.
 pub(crate) fn any_longer(sections: &[u32; LOCKS], own: u32) -> bool
     ensures { result ≡ any_above own sections.now }

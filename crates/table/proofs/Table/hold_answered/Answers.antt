@@ -1,8 +1,8 @@
 use Rattle.std.proofs.Common.{Result}
 use Rattle.analysis.specs.declared.answers.Answers.{Answers}
 use Rattle.demand.specs.Demand.{Demand, Lawful}
-use Rattle.table.specs.declared.Hold.{Hold}
-use Rattle.table.specs.declared.HoldRefusal.{HoldRefusal}
+use Rattle.table.specs.declared.hold.Hold.{Hold}
+use Rattle.table.specs.declared.refusals.HoldRefusal.{HoldRefusal}
 use Rattle.table.specs.declared.Table.{Table}
 use Rattle.table.specs.Account.{Account, HoldsAnswered, hold_part}
 use Rattle.table.specs.Agreement.{AgreesWith}
@@ -13,8 +13,8 @@ use Rattle.analysis.specs.Candidates.{claims}
 use Rattle.analysis.specs.Judge.{JudgementRefused, Judged}
 use Rattle.analysis.specs.Ranks.{Claim}
 use Rattle.analysis.specs.declared.Task.{Task}
-use Rattle.table.specs.declared.HoldRefusal.TheVariants.{NoPlace}
-use Rattle.table.specs.declared.State.TheVariants.{Free}
+use Rattle.table.specs.declared.refusals.HoldRefusal.TheVariants.{NoPlace}
+use Rattle.table.specs.declared.state.State.TheVariants.{Free}
 use Rattle.table.specs.Account.{hold_number, with_row}
 use Rattle.table.specs.Places.{At}
 use Rattle.table.proofs.Changes.{row_in}

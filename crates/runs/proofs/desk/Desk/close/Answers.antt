@@ -1,6 +1,6 @@
 use Rattle.std.proofs.Common.{◌≡◌, ◌∷◌, ◌++◌, [], List, append_assoc, map, subst, refl, ap, ◌∙◌, arith}
 use Rattle.std.specs.Vec.{vec_items}
-use Rattle.table.specs.declared.Hold.{Hold}
+use Rattle.table.specs.declared.hold.Hold.{Hold}
 use Rattle.runs.specs.Calls.{release_of}
 use Rattle.runs.specs.Holds.{InHand}
 use Rattle.runs.proofs.Hands.{last_taken, no_items, same_frame, without_last}

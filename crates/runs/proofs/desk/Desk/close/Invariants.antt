@@ -1,7 +1,7 @@
 -- The holds that are left are those in hand; the others were given up.
 use Rattle.std.proofs.Common.{◌≡◌, List, ◌++◌, map, length}
 use Rattle.std.specs.Vec.{vec_items, vec_len}
-use Rattle.table.specs.declared.Hold.{Hold}
+use Rattle.table.specs.declared.hold.Hold.{Hold}
 use Rattle.table.specs.History.{HasHistory}
 use Rattle.table.specs.Runs.{Event}
 use Rattle.runs.specs.Calls.{release_of}

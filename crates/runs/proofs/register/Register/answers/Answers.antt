@@ -1,7 +1,7 @@
 use Rattle.std.proofs.Common.{◌≡◌, subst}
 use Rattle.analysis.specs.declared.answers.Answers.{Answers}
 use Rattle.analysis.specs.Judge.{Answered, answers_of}
-use Rattle.analysis.specs.Ranks.{loads, ranked}
+use Rattle.analysis.specs.Ranks.{loads, ranking}
 use Rattle.table.proofs.InHand.{accounted_of, answers_all}
 use Rattle.runs.proofs.register.Register.answers.Goals as goal
 
@@ -14,4 +14,4 @@ returns-clause-account g c a agrees =
     let answered = all.1 in
     let unwrapped = c.unwrap.ensures in
     let same : all.0 ≡ c.unwrap.result = cc in
-    subst (λ (x : Answers). Answered (loads (ranked a.rows)) (answers_of x)) same all.2
+    subst (λ (x : Answers). Answered (loads (ranking a.rows)) (answers_of x)) same all.2

@@ -1,5 +1,5 @@
 use Rattle.std.proofs.Common.{Some}
-use Rattle.table.specs.declared.State.TheVariants.{Free, Held}
+use Rattle.table.specs.declared.state.State.TheVariants.{Free, Held}
 use Rattle.table.proofs.Histories.{goes_on}
 use Rattle.table.proofs.InHand.{accounted_of}
 use Rattle.runs.proofs.Frame.{put_or_refused}

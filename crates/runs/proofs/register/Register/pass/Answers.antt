@@ -1,6 +1,6 @@
 use Rattle.std.proofs.Common.{None, Some, ◌∙◌}
 use Rattle.std.proofs.lemmas.Result.{err_from_is_err_and}
-use Rattle.table.specs.declared.State.TheVariants.{Free, Held, Kept}
+use Rattle.table.specs.declared.state.State.TheVariants.{Free, Held, Kept}
 use Rattle.table.specs.Account.{with_kept, with_released}
 use Rattle.table.proofs.Histories.{goes_on}
 use Rattle.table.proofs.InHand.{accounted_of}

@@ -1,5 +1,5 @@
 use Rattle.std.proofs.Common.{None, refl}
-use Rattle.table.specs.declared.State.TheVariants.{Free, Held, Kept}
+use Rattle.table.specs.declared.state.State.TheVariants.{Free, Held, Kept}
 use Rattle.table.specs.Account.{with_kept, with_released}
 use Rattle.table.proofs.Histories.{goes_on}
 use Rattle.table.proofs.InHand.{accounted_of}

@@ -4,7 +4,7 @@ ghost use Rattle.demand.specs.Basic.{from_heavy, heavy_demand, largest_total, le
 ghost use Rattle.demand.specs.Refusals.{answer_number, first, heavy_checks};
 ghost use Rattle.demand.specs.Laws.{heavy_lawful};
 
-use super::{Kind, KindRefusal, LONGEST, is_length, rounded_up, up_to_cap};
+use super::{Kind, KindRefusal, LONGEST, div_up, is_length, up_to_cap};
 
 // One of each `among` consecutive jobs takes the time `heavy`, the others the time `job`, and jobs are `period` apart.
 // A number out of range counts as the nearest in it, and `heavy` as at least `job`.
@@ -45,7 +45,7 @@ impl Heavy {
         let job = u64::from(self.least());
         let heavy = u64::from(self.own());
         let among = u64::from(self.among.clamp(2, 64));
-        jobs * job + rounded_up(jobs, among) * (heavy - job)
+        jobs * job + div_up(jobs, among) * (heavy - job)
     }
 }
 
@@ -68,7 +68,7 @@ impl Kind for Heavy {
     }
 
     fn work(&self, window: u32) -> u32 {
-        let jobs = rounded_up(u64::from(window), u64::from(self.spacing()));
+        let jobs = div_up(u64::from(window), u64::from(self.spacing()));
         up_to_cap(self.largest_total(jobs))
     }
 }

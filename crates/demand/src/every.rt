@@ -4,7 +4,7 @@ ghost use Rattle.demand.specs.Basic.{every_demand};
 ghost use Rattle.demand.specs.Refusals.{answer_number, every_checks, first};
 ghost use Rattle.demand.specs.Laws.{every_lawful};
 
-use super::{Kind, KindRefusal, LONGEST, is_length, rounded_up, up_to_cap};
+use super::{Kind, KindRefusal, LONGEST, div_up, is_length, up_to_cap};
 
 // Every job takes the time `job`, and jobs are `period` apart. A number out of range counts as the nearest in it.
 #[derive(Clone, Copy)]
@@ -47,7 +47,7 @@ impl Kind for Every {
     }
 
     fn work(&self, window: u32) -> u32 {
-        let jobs = rounded_up(u64::from(window), u64::from(self.spacing()));
+        let jobs = div_up(u64::from(window), u64::from(self.spacing()));
         up_to_cap(jobs * u64::from(self.own()))
     }
 }
