@@ -1,26 +1,27 @@
 -- The kinds that are given by numbers alone. Assumes nothing.
 -- How to read it: c is the length of a job and h that of a heavy one, m how many jobs in a row have one heavy job among them, t the spacing.
 -- The numbers may be any; `one_heavy` alone is for numbers in their ranges. What ends in `_demand` is the same of a value of the code.
-use Rattle.std.specs.Prelude.{ℕ, zero, suc, ◌+◌, ◌-◌, ◌*◌, ◌%◌, max, cond, ◌==◌}
+use Rattle.std.specs.Prelude.{ℕ, zero, suc, ◌+◌, ◌-◌, ◌*◌, ◌%◌, max, if◌then◌else◌, ◌==◌}
+use Rattle.demand.specs.declared.TheConstants.{FEWEST_AMONG, LONGEST, MOST_AMONG}
 use Rattle.demand.specs.Demand.{Demand, up_to_cap, nearest_in, div_up}
 use Rattle.demand.specs.declared.every.Every.{Every}
 use Rattle.demand.specs.declared.heavy.Heavy.{Heavy}
 
--- a job's length out of 1 to 1,000,000 counts as the nearest
+-- a job's length out of range counts as the nearest in it
 abbrev pub length_of_job : ℕ → ℕ
-length_of_job = nearest_in 1 1_000_000
+length_of_job = nearest_in 1 LONGEST
 
--- a spacing out of 1 to 1,000,000 counts as the nearest
+-- a spacing out of range counts as the nearest in it
 abbrev pub length_of_spacing : ℕ → ℕ
-length_of_spacing = nearest_in 1 1_000_000
+length_of_spacing = nearest_in 1 LONGEST
 
 -- a heavy job counts as at least as long as another
 abbrev pub length_of_heavy : ℕ → ℕ → ℕ
 length_of_heavy c h = max (length_of_job h) (length_of_job c)
 
--- how many consecutive jobs have one heavy job among them: 2 to 64
+-- how many consecutive jobs have one heavy job among them; a number out of range counts as the nearest in it
 abbrev pub length_of_pattern : ℕ → ℕ
-length_of_pattern = nearest_in 2 64
+length_of_pattern = nearest_in FEWEST_AMONG MOST_AMONG
 
 -- every job takes C, and jobs are T apart
 abbrev pub every : ℕ → ℕ → Demand
@@ -37,7 +38,7 @@ every_demand k = every k.job k.period
 
 -- job number j takes H where j is a multiple of m, and C elsewhere
 abbrev pub job_number : ℕ → ℕ → ℕ → ℕ → ℕ
-job_number c h m j = cond (j % m == 0) h c
+job_number c h m j = if j % m == 0 then h else c
 
 -- the total of the n consecutive jobs from number p on
 abbrev pub total : ℕ → ℕ → ℕ → ℕ → ℕ → ℕ

@@ -1,18 +1,15 @@
 -- What a kind of demand means, and the laws that every kind keeps. Assumes nothing.
 -- How to read it: numbers that are cut to a range come first; then `Demand`, which is what a kind means, and `Lawful`, which is the laws.
 use Rattle.std.specs.Prelude.{ℕ, ◌+◌, ◌-◌, ◌/◌, ◌≤◌, min, max}
-
--- the largest job and the largest work that is ever answered
-abbrev pub cap : ℕ
-cap = 2_000_000
+use Rattle.demand.specs.declared.TheConstants.{CAP, LONGEST}
 
 -- the largest window
 abbrev pub widest : ℕ
 widest = 4_294_967_295
 
--- a number above the cap is answered as the cap
+-- a job or some work above the largest that is ever answered is answered as that
 abbrev pub up_to_cap : ℕ → ℕ
-up_to_cap n = min n cap
+up_to_cap n = min n CAP
 
 -- a window beyond the largest counts as the largest
 abbrev pub window : ℕ → ℕ
@@ -38,9 +35,9 @@ pub record Demand : Type 0 where
 pub record Lawful (d : Demand) : Type 0 where
   pub least_positive : 1 ≤ d.least
   pub least_within_own : d.least ≤ d.own
-  pub own_within_cap : d.own ≤ cap
+  pub own_within_cap : d.own ≤ CAP
   pub spacing_positive : 1 ≤ d.spacing
-  pub spacing_limited : d.spacing ≤ 1_000_000
+  pub spacing_limited : d.spacing ≤ LONGEST
   pub work_never_falls : (v w : ℕ) → v ≤ w → w ≤ widest → d.work v ≤ d.work w
-  pub work_within_cap : (w : ℕ) → w ≤ widest → d.work w ≤ cap
+  pub work_within_cap : (w : ℕ) → w ≤ widest → d.work w ≤ CAP
   pub work_covers_own : (w : ℕ) → 1 ≤ w → w ≤ widest → d.own ≤ d.work w

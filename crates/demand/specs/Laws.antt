@@ -3,6 +3,7 @@
 use Rattle.std.specs.Prelude.{ℕ, ◌+◌, ◌-◌, ◌*◌, ◌<◌, ◌≤◌}
 use Rattle.std.proofs.Common.{arith}
 use Rattle.std.proofs.lemmas.Nat.{mul-le, le-div}
+use Rattle.demand.specs.declared.TheConstants.{LONGEST}
 use Rattle.demand.specs.Demand.{Demand, Lawful, window, div_up}
 use Rattle.demand.specs.Basic.{every, heavy, one_heavy, length_of_job, length_of_heavy, length_of_pattern, length_of_spacing}
 use Rattle.demand.specs.Made.{either_demand, delayed_by, delay_of, longer_by, slowed_by, times_up, numerator_of, denominator_of}
@@ -29,7 +30,7 @@ every_lawful c t = record {
 }
 
 -- for numbers in their ranges
-pub one_heavy_lawful : (c h m t : ℕ) → 1 ≤ c → c ≤ h → h ≤ 1_000_000 → 0 < m → 1 ≤ t → t ≤ 1_000_000 → Lawful (one_heavy c h m t)
+pub one_heavy_lawful : (c h m t : ℕ) → 1 ≤ c → c ≤ h → h ≤ LONGEST → 0 < m → 1 ≤ t → t ≤ LONGEST → Lawful (one_heavy c h m t)
 one_heavy_lawful c h m t c_pos less h_top m_pos t_pos t_top = record {
   least_positive = c_pos;
   least_within_own = less;

@@ -2,6 +2,7 @@
 -- How to read it: d is what the kind below means, j the delay, a / b the factor. What ends in `_demand` is the same of a value of the code, and
 -- is given what values of the kinds below mean.
 use Rattle.std.specs.Prelude.{ℕ, ◌+◌, ◌-◌, ◌*◌, ◌/◌, min, max}
+use Rattle.demand.specs.declared.TheConstants.{LARGEST_PART}
 use Rattle.demand.specs.Demand.{Demand, up_to_cap, window, nearest_in, div_up}
 use Rattle.demand.specs.declared.delayed.Delayed.{Delayed}
 use Rattle.either.specs.declared.Either.{Either}
@@ -30,13 +31,13 @@ delayed_by j d = record {
 abbrev pub delayed_demand : {K : Type 0} → (K → Demand) → Delayed K → Demand
 delayed_demand below k = delayed_by k.delay (below k.kind)
 
--- the b of a factor a / b counts as one from 1 to 1,000
+-- the b of a factor a / b counts as the nearest in its range
 abbrev pub denominator_of : ℕ → ℕ
-denominator_of = nearest_in 1 1_000
+denominator_of = nearest_in 1 LARGEST_PART
 
--- the a of a factor a / b counts as one from 1 to 1,000, and as at least b
+-- the a of a factor a / b counts as the nearest in its range, and as at least b
 abbrev pub numerator_of : ℕ → ℕ → ℕ
-numerator_of a b = max (nearest_in 1 1_000 a) (denominator_of b)
+numerator_of a b = max (nearest_in 1 LARGEST_PART a) (denominator_of b)
 
 -- n times a / b, rounded up
 abbrev pub times_up : ℕ → ℕ → ℕ → ℕ

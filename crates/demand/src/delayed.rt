@@ -6,18 +6,23 @@ ghost use Rattle.demand.specs.Laws.{delayed_lawful};
 
 use super::{Kind, KindRefusal};
 
-// The jobs of `kind`, each late by up to `delay`, which counts as less than the spacing of `kind`.
-#[derive(Clone, Copy, Drop)]
+/// The jobs of `kind`, each of which may come late by up to `delay` ticks. So two jobs can be closer by the delay.
+///
+/// A delay counts as at most the spacing of `kind` less 1.
+#[derive(Clone, Copy, PartialEq, Eq, Debug, Drop)]
 pub struct Delayed<K> {
+    /// The kind below.
     pub kind: K,
+    /// How late a job may come, in ticks.
     pub delay: u32,
 }
 
 impl<K: Kind + Drop> Delayed<K> {
-    // The kind, each job late by up to `delay`, or a refusal where that is not below its spacing.
+    /// The kind, each job late by up to `delay`. Refused with [`KindRefusal::Delay`] where that is not below its spacing.
     pub fn new(kind: K, delay: u32) -> Result<Delayed<K>, KindRefusal>
         ensures refusal { answer_number result ≡ first (delayed_checks delay (K.Kind.demand kind)) }
-        ensures fields { IfOk result (λ k. (k.kind ≡ kind) × (k.delay ≡ delay)) }
+        ensures kind { IfOk result (λ k. k.kind ≡ kind) }
+        ensures delay { IfOk result (λ k. k.delay ≡ delay) }
     {
         if kind.spacing() <= delay {
             return Err(KindRefusal::Delay);

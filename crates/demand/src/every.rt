@@ -6,18 +6,24 @@ ghost use Rattle.demand.specs.Laws.{every_lawful};
 
 use super::{Kind, KindRefusal, LONGEST, div_up, is_length, up_to_cap};
 
-// Every job takes the time `job`, and jobs are `period` apart. A number out of range counts as the nearest in it.
-#[derive(Clone, Copy)]
+/// Every job takes the time `job`, and jobs are at least `period` apart.
+///
+/// Both are in ticks, and each counts as the nearest from 1 to [`LONGEST`].
+#[derive(Clone, Copy, PartialEq, Eq, Debug)]
 pub struct Every {
+    /// The length of each job, in ticks.
     pub job: u32,
+    /// The least time from one job to the next, in ticks.
     pub period: u32,
 }
 
 impl Every {
-    // The kind with these numbers, or a refusal where one is out of range.
+    /// The kind with these numbers. Refused with [`KindRefusal::Job`] where `job` is out of range, else with
+    /// [`KindRefusal::Period`] where `period` is.
     pub fn new(job: u32, period: u32) -> Result<Every, KindRefusal>
         ensures refusal { answer_number result ≡ first (every_checks job period) }
-        ensures fields { IfOk result (λ k. (k.job ≡ job) × (k.period ≡ period)) }
+        ensures job { IfOk result (λ k. k.job ≡ job) }
+        ensures period { IfOk result (λ k. k.period ≡ period) }
     {
         if !is_length(job) {
             return Err(KindRefusal::Job);

@@ -4,28 +4,38 @@ ghost use Rattle.demand.specs.Basic.{from_heavy, heavy_demand, largest_total, le
 ghost use Rattle.demand.specs.Refusals.{answer_number, first, heavy_checks};
 ghost use Rattle.demand.specs.Laws.{heavy_lawful};
 
-use super::{Kind, KindRefusal, LONGEST, div_up, is_length, up_to_cap};
+use super::{FEWEST_AMONG, Kind, KindRefusal, LONGEST, MOST_AMONG, div_up, is_length, up_to_cap};
 
-// One of each `among` consecutive jobs takes the time `heavy`, the others the time `job`, and jobs are `period` apart.
-// A number out of range counts as the nearest in it, and `heavy` as at least `job`.
-#[derive(Clone, Copy)]
+/// One of each `among` consecutive jobs takes the time `heavy`, the others take `job`, and jobs are at least `period` apart.
+///
+/// Times are in ticks, and each counts as the nearest from 1 to [`LONGEST`], `heavy` as at least `job`; `among` counts as the
+/// nearest from [`FEWEST_AMONG`] to [`MOST_AMONG`].
+#[derive(Clone, Copy, PartialEq, Eq, Debug)]
 pub struct Heavy {
+    /// The length of a job that is not heavy, in ticks.
     pub job: u32,
+    /// The length of a heavy job, in ticks.
     pub heavy: u32,
+    /// How many consecutive jobs have one heavy job among them.
     pub among: u32,
+    /// The least time from one job to the next, in ticks.
     pub period: u32,
 }
 
 impl Heavy {
-    // The kind with these numbers, or a refusal where one is out of range.
+    /// The kind with these numbers. Refused with [`KindRefusal::Job`] where a length is out of range or `heavy` is below `job`,
+    /// else with [`KindRefusal::Period`] where `period` or `among` is out of range.
     pub fn new(job: u32, heavy: u32, among: u32, period: u32) -> Result<Heavy, KindRefusal>
         ensures refusal { answer_number result ≡ first (heavy_checks job heavy among period) }
-        ensures fields { IfOk result (λ k. (k.job ≡ job) × (k.heavy ≡ heavy) × (k.among ≡ among) × (k.period ≡ period)) }
+        ensures job { IfOk result (λ k. k.job ≡ job) }
+        ensures heavy { IfOk result (λ k. k.heavy ≡ heavy) }
+        ensures among { IfOk result (λ k. k.among ≡ among) }
+        ensures period { IfOk result (λ k. k.period ≡ period) }
     {
         if !is_length(job) || !is_length(heavy) || heavy < job {
             return Err(KindRefusal::Job);
         }
-        if !is_length(period) || !(2..=64).contains(&among) {
+        if !is_length(period) || !(FEWEST_AMONG..=MOST_AMONG).contains(&among) {
             return Err(KindRefusal::Period);
         }
         Ok(Heavy {
@@ -36,16 +46,28 @@ impl Heavy {
         })
     }
 
+    // How many consecutive jobs count as having one heavy job among them.
+    fn pattern(&self) -> u64
+        ensures { result ≡ length_of_pattern self.now.among }
+    {
+        u64::from(self.among.clamp(FEWEST_AMONG, MOST_AMONG))
+    }
+
     // The largest total of consecutive jobs: that of those that begin with a heavy one, since no others take more.
     fn largest_total(&self, jobs: u64) -> u64
         requires { jobs < 2 ^ 32 }
-        ensures from_heavy { result ≡ from_heavy (length_of_job self.now.job) (length_of_heavy self.now.job self.now.heavy) (length_of_pattern self.now.among) jobs }
-        ensures largest { result ≡ largest_total (length_of_job self.now.job) (length_of_heavy self.now.job self.now.heavy) (length_of_pattern self.now.among) jobs }
+        ensures from_heavy { result
+            ≡ from_heavy (length_of_job self.now.job)
+            (length_of_heavy self.now.job self.now.heavy)
+            (length_of_pattern self.now.among) jobs }
+        ensures largest { result
+            ≡ largest_total (length_of_job self.now.job)
+            (length_of_heavy self.now.job self.now.heavy)
+            (length_of_pattern self.now.among) jobs }
     {
         let job = u64::from(self.least());
         let heavy = u64::from(self.own());
-        let among = u64::from(self.among.clamp(2, 64));
-        jobs * job + div_up(jobs, among) * (heavy - job)
+        jobs * job + div_up(jobs, self.pattern()) * (heavy - job)
     }
 }
 
@@ -54,7 +76,6 @@ impl Kind for Heavy {
 
     ghost lawful = { λ k. heavy_lawful k.job k.heavy k.among k.period };
 
-    // as for `Every`: one line, and no plainer as a function of both
     fn spacing(&self) -> u32 {
         self.period.clamp(1, LONGEST)
     }

@@ -151,6 +151,34 @@ fn one_or_the_other(rt: HostRuntime) -> Result<(), Fail> {
     Ok(())
 }
 
+// Each refusal says its number and what is wrong.
+#[test]
+fn refusals_in_words(rt: HostRuntime) -> Result<(), Fail> {
+    let texts = [
+        (
+            KindRefusal::Job,
+            "check 1: a job's length is not 1 to 1000000, or the heavy job is shorter than the others",
+        ),
+        (
+            KindRefusal::Period,
+            "check 2: the spacing is not 1 to 1000000, or one job is heavy of not 2 to 64",
+        ),
+        (
+            KindRefusal::Delay,
+            "check 3: the delay is not below the spacing",
+        ),
+        (
+            KindRefusal::Speed,
+            "check 4: the factor is below 1, or a part of it is not 1 to 1000",
+        ),
+    ];
+    for (refusal, text) in texts {
+        let told = format!(in rt.alloc(); "{refusal}")?;
+        assert_eq!(rt; told.as_str(), text);
+    }
+    Ok(())
+}
+
 // The answer is `true` always; what is proved is the contract.
 #[test]
 fn figures_hold(rt: HostRuntime) {
