@@ -4,7 +4,7 @@ use Rattle.demand.specs.Demand.{Lawful}
 use Rattle.analysis.specs.declared.Row.{Row}
 use Rattle.analysis.specs.Cover.{interference}
 use Rattle.analysis.specs.Plans.{Window, Bounds}
-use Rattle.analysis.specs.Ranks.{Claim, Load, wait, aboves, at, rows, loads_of, loads, ranking, system, system_of}
+use Rattle.analysis.specs.Ranks.{Claim, Load, wait, aboves, load_at, rows, loads_of, loads, ranking, system, system_of}
 use Rattle.analysis.specs.Removal.{SomeOf, none, keep, leave, rank_of, RemovalKeepsInTime}
 use Rattle.analysis.proofs.Blocked.{Lighter, lighter, lighter_rank}
 use Rattle.analysis.proofs.Easier as easier
@@ -47,7 +47,7 @@ fewer_rows (leave s) lawful k h Q R le v =
     let rest = fewer_rows s lawful.1 k h Q (λ i. R (suc i)) le (v / 2) in
     (rest.0, rest.1, easier.leave rest.2)
 
-at_rank : {ls ms : List Load} (s : SomeOf Lighter ls ms) (k : ℕ) → k < length ls → Lighter (at ls k) (at ms (rank_of s k)) × (rank_of s k < length ms)
+at_rank : {ls ms : List Load} (s : SomeOf Lighter ls ms) (k : ℕ) → k < length ls → Lighter (load_at ls k) (load_at ms (rank_of s k)) × (rank_of s k < length ms)
 at_rank none k h = absurd (not-suc-le-zero h)
 at_rank (keep e s) zero h = (e, omega arith)
 at_rank (keep e s) (suc k) h = let r = at_rank s k (omega arith) in (r.0, omega (arith, r.1))
@@ -58,9 +58,9 @@ window_left : {ls ms : List Load} (s : SomeOf Lighter ls ms) → LawfulLoads ms 
 window_left {ls} {ms} s lawful k h Q R le v t w =
     let rest = fewer_rows s lawful k h Q R le v in
     let here = (at_rank s k h).0 in
-    let own : (at ls k).claim.demand.own ≡ (at ms (rank_of s k)).claim.demand.own = ap (λ (c : Claim). c.demand.own) here.claim in
-    let suspension : (at ls k).claim.row.suspension ≡ (at ms (rank_of s k)).claim.row.suspension = ap (λ (c : Claim). c.row.suspension) here.claim in
-    let deadline : (at ls k).claim.row.deadline ≡ (at ms (rank_of s k)).claim.row.deadline = ap (λ (c : Claim). c.row.deadline) here.claim in
+    let own : (load_at ls k).claim.demand.own ≡ (load_at ms (rank_of s k)).claim.demand.own = ap (λ (c : Claim). c.demand.own) here.claim in
+    let suspension : (load_at ls k).claim.row.suspension ≡ (load_at ms (rank_of s k)).claim.row.suspension = ap (λ (c : Claim). c.row.suspension) here.claim in
+    let deadline : (load_at ls k).claim.row.deadline ≡ (load_at ms (rank_of s k)).claim.row.deadline = ap (λ (c : Claim). c.row.deadline) here.claim in
     let blocked = here.blocked in
     let more : interference (take k (aboves ls Q)) rest.0 t ≤ interference (take (rank_of s k) (aboves ms R)) v t = interference_easier t t (omega arith) rest.2 in
     let limit = w.to_deadline in
