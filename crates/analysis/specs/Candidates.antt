@@ -3,6 +3,8 @@
 -- are judged, with the meanings of their kinds.
 use Rattle.std.specs.Prelude.{◌≡◌, ℕ, ◌+◌, List, [], ◌∷◌, ◌++◌, map, length, Some, None, Option, nat_lt, slice_index_or, if◌then◌else◌}
 use Rattle.std.specs.Borrow.{Bor}
+use Rattle.std.specs.List.{filter_map}
+use Rattle.std.specs.Option.{option_map}
 use Rattle.demand.specs.Demand.{Demand}
 use Rattle.analysis.specs.declared.Row.{Row}
 use Rattle.analysis.specs.declared.Task.{Task}
@@ -49,9 +51,7 @@ module _ {K : Type 0} where
 
   -- the rows of these tasks, with the meanings of their kinds
   abbrev pub claims_of : (K → Demand) → List (Option (Task K)) → List Claim
-  claims_of demand [] = []
-  claims_of demand (None ∷ os) = claims_of demand os
-  claims_of demand (Some t ∷ os) = claim_with demand t.row t.kind ∷ claims_of demand os
+  claims_of demand = filter_map (option_map (λ t. claim_with demand t.row t.kind))
 
   -- all that are judged together: those at the places, and the newcomer
   abbrev pub claims : (K → Demand) → List (Option (Task K)) → Option (Task K) → List Claim
