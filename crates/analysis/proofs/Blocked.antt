@@ -1,7 +1,7 @@
 -- Fewer rows, lower ceilings and less blocking. Assumes nothing.
 use Rattle.std.proofs.Common.{◌≡◌, ℕ, zero, suc, ◌+◌, ◌≤◌, Bool, true, false, cond, eqb, leb, List, ◌∷◌, Some, None, Option, refl, ap, subst, mul-le-mul_left, arith, leb-false, leb-true}
 use Rattle.analysis.specs.declared.Row.{Row}
-use Rattle.analysis.specs.Locks.{section, raised, ceiling, reaches, longest_of, longest, blocking}
+use Rattle.analysis.specs.Locks.{section, greater_of, ceiling, reaches, longest_in_row, longest_in, blocking}
 use Rattle.analysis.specs.Ranks.{Claim, Load, rows, loads_of, loads}
 use Rattle.analysis.specs.Removal.{SomeOf, none, keep, leave, rank_of}
 
@@ -10,13 +10,13 @@ abbrev pub top : Option ℕ → ℕ
 top None = 0
 top (Some c) = suc c
 
-top_raised : (q : ℕ) (c d : Option ℕ) → top c ≤ top d → top (Some (raised q c)) ≤ top (Some (raised q d))
+top_raised : (q : ℕ) (c d : Option ℕ) → top c ≤ top d → top (Some (greater_of q c)) ≤ top (Some (greater_of q d))
 top_raised q None None h = omega arith
 top_raised q None (Some d) h = omega arith
 top_raised q (Some c) None h = omega arith
 top_raised q (Some c) (Some d) h = omega arith
 
-top_raised_over : (q : ℕ) (c d : Option ℕ) → top c ≤ top d → top c ≤ top (Some (raised q d))
+top_raised_over : (q : ℕ) (c d : Option ℕ) → top c ≤ top d → top c ≤ top (Some (greater_of q d))
 top_raised_over q None d h = omega arith
 top_raised_over q (Some c) None h = omega arith
 top_raised_over q (Some c) (Some d) h = omega arith
@@ -33,11 +33,11 @@ blocks_less (Some c) (Some d) p n h = go (leb p c) (leb p d) refl refl
     go false y e f = omega arith
 
 -- a row that does or does not use the lock
-used : (x : Bool) (q : ℕ) (c d : Option ℕ) → top c ≤ top d → top (cond x c (Some (raised q c))) ≤ top (cond x d (Some (raised q d)))
+used : (x : Bool) (q : ℕ) (c d : Option ℕ) → top c ≤ top d → top (cond x c (Some (greater_of q c))) ≤ top (cond x d (Some (greater_of q d)))
 used true q c d h = h
 used false q c d h = top_raised q c d h
 
-used_above : (x : Bool) (q : ℕ) (c d : Option ℕ) → top c ≤ top d → top c ≤ top (cond x d (Some (raised q d)))
+used_above : (x : Bool) (q : ℕ) (c d : Option ℕ) → top c ≤ top d → top c ≤ top (cond x d (Some (greater_of q d)))
 used_above true q c d h = h
 used_above false q c d h = top_raised_over q c d h
 
@@ -51,21 +51,21 @@ ceiling_less lock (leave {b = b} {xs = xs} {ys = ys} s) =
     used_above (eqb (section b.row lock) 0) b.row.priority _ _ (ceiling_less lock s)
 
 module _ (c d : ℕ → Option ℕ) (le : (lock : ℕ) → top (c lock) ≤ top (d lock)) (p : ℕ) where
-  longest_of_less : (r : Row) (n : ℕ) → longest_of c p r n ≤ longest_of d p r n
+  longest_of_less : (r : Row) (n : ℕ) → longest_in_row c p r n ≤ longest_in_row d p r n
   longest_of_less r zero = omega arith
   longest_of_less r (suc n) =
       let first = blocks_less (c n) (d n) p (section r n) (le n) in
       let others = longest_of_less r n in
       omega arith
 
-  longest_less : {xs ys : List Claim} → SomeOf ◌≡◌ xs ys → longest c p (rows xs) ≤ longest d p (rows ys)
+  longest_less : {xs ys : List Claim} → SomeOf ◌≡◌ xs ys → longest_in c p (rows xs) ≤ longest_in d p (rows ys)
   longest_less none = omega arith
   longest_less (keep {a = a} {b = b} {xs = xs} {ys = ys} e s) =
-      let first : longest_of c p a.row 8 ≤ longest_of d p b.row 8 = subst (λ (z : Claim). longest_of c p a.row 8 ≤ longest_of d p z.row 8) e (longest_of_less a.row 8) in
-      let others : longest c p (rows xs) ≤ longest d p (rows ys) = longest_less s in
+      let first : longest_in_row c p a.row 8 ≤ longest_in_row d p b.row 8 = subst (λ (z : Claim). longest_in_row c p a.row 8 ≤ longest_in_row d p z.row 8) e (longest_of_less a.row 8) in
+      let others : longest_in c p (rows xs) ≤ longest_in d p (rows ys) = longest_less s in
       omega arith
   longest_less (leave {b = b} {xs = xs} {ys = ys} s) =
-      let others : longest c p (rows xs) ≤ longest d p (rows ys) = longest_less s in
+      let others : longest_in c p (rows xs) ≤ longest_in d p (rows ys) = longest_less s in
       omega arith
 
 -- the same row with no more blocking

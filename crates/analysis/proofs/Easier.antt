@@ -1,7 +1,7 @@
 -- Fewer rows above, with less waits, jitter and work, do less. Assumes nothing.
 use Rattle.std.proofs.Common.{◌≡◌, ℕ, ◌/◌, ◌%◌, ◌≤◌, Bool, true, false, cond, List, [], ◌∷◌, arith}
 use Rattle.demand.specs.Demand.{widest}
-use Rattle.analysis.specs.Cover.{Above, chosen, waits, stretched, interference}
+use Rattle.analysis.specs.Cover.{Above, lowest_bit, waits, working_window, interference}
 
 -- x does no more than y
 pub record Milder (x y : Above) : Type 0 where
@@ -22,13 +22,13 @@ cond_mono b c e p q r t h k = rw e (go c)
     go true = h
     go false = k
 
-same_choice : (u v : ℕ) → u % 2 ≡ v % 2 → chosen u ≡ chosen v
+same_choice : (u v : ℕ) → u % 2 ≡ v % 2 → lowest_bit u ≡ lowest_bit v
 same_choice u v e = rw e
 
 pub waits_easier : {xs ys : List Above} {u v : ℕ} → Easier xs u ys v → waits xs u ≤ waits ys v
 waits_easier none = omega arith
 waits_easier (keep {x = x} {y = y} {xs = xs} {ys = ys} {u = u} {v = v} m e r) =
-    let first : cond (chosen u) x.wait 0 ≤ cond (chosen v) y.wait 0 = cond_mono (chosen u) (chosen v) (same_choice u v e) _ _ 0 0 m.wait (omega arith) in
+    let first : cond (lowest_bit u) x.wait 0 ≤ cond (lowest_bit v) y.wait 0 = cond_mono (lowest_bit u) (lowest_bit v) (same_choice u v e) _ _ 0 0 m.wait (omega arith) in
     let others : waits xs (u / 2) ≤ waits ys (v / 2) = waits_easier r in
     omega arith
 waits_easier (leave {y = y} {xs = xs} {ys = ys} {u = u} {v = v} r) =
@@ -40,9 +40,9 @@ pub interference_easier : {xs ys : List Above} {u v : ℕ} (q t : ℕ) → q ≤
 interference_easier q t h none = omega arith
 interference_easier q t h (keep {x = x} {y = y} {xs = xs} {ys = ys} {u = u} {v = v} m e r) =
     let whole : waits (x ∷ xs) u ≤ waits (y ∷ ys) v = waits_easier (keep m e r) in
-    let extra : cond (chosen u) 0 x.jitter ≤ cond (chosen v) 0 y.jitter = cond_mono (chosen u) (chosen v) (same_choice u v e) 0 0 _ _ (omega arith) m.jitter in
-    let first : x.work (stretched x xs u q) ≤ y.work (stretched y ys v t) =
-    m.work (stretched x xs u q) (stretched y ys v t) (omega arith) (omega arith)
+    let extra : cond (lowest_bit u) 0 x.jitter ≤ cond (lowest_bit v) 0 y.jitter = cond_mono (lowest_bit u) (lowest_bit v) (same_choice u v e) 0 0 _ _ (omega arith) m.jitter in
+    let first : x.work (working_window x xs u q) ≤ y.work (working_window y ys v t) =
+    m.work (working_window x xs u q) (working_window y ys v t) (omega arith) (omega arith)
     in
     let others : interference xs (u / 2) q ≤ interference ys (v / 2) t = interference_easier q t h r in
     omega arith

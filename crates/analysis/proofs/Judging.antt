@@ -12,28 +12,28 @@ use Rattle.analysis.specs.declared.Task.{Task}
 use Rattle.analysis.specs.Candidates.{above_of, need_with, claim_of}
 use Rattle.analysis.specs.Cover.{Above, interference}
 use Rattle.analysis.specs.Judge.{RankAnswered, RowAnswered, Answered, no_answer, bounds_of, vectors_of}
-use Rattle.analysis.specs.Locks.{ceiling, reaches, section, longest_of, longest, blocking}
+use Rattle.analysis.specs.Locks.{ceiling, reaches, section, longest_in_row, longest_in, blocking}
 use Rattle.analysis.specs.Places.{ranked_rows, no_rank}
 use Rattle.analysis.specs.Plans.{LeastCover, NoCover, Bound, Bounds, FirstLate}
-use Rattle.analysis.specs.Ranks.{Claim, Load, wait, rows, loads_of, loads, aboves, at, system}
+use Rattle.analysis.specs.Ranks.{Claim, Load, wait, rows, loads_of, loads, aboves, load_at, system}
 
 -- ceilings that agree on the eight locks block alike
-longest_of_same : (c d : ℕ → Option ℕ) (p : ℕ) (r : Row) (n : ℕ) → ((lock : ℕ) → lock < n → c lock ≡ d lock) → longest_of c p r n ≡ longest_of d p r n
+longest_of_same : (c d : ℕ → Option ℕ) (p : ℕ) (r : Row) (n : ℕ) → ((lock : ℕ) → lock < n → c lock ≡ d lock) → longest_in_row c p r n ≡ longest_in_row d p r n
 longest_of_same c d p r zero e = refl
 longest_of_same c d p r (suc n) e =
     ap₂ (λ (m : ℕ) (o : Option ℕ). max m (cond (reaches o p) (section r n) 0)) (longest_of_same c d p r n (λ lock h. e lock (omega arith))) (e n (omega arith))
 
-pub longest_same : (c d : ℕ → Option ℕ) → ((lock : ℕ) → lock < 8 → c lock ≡ d lock) → (p : ℕ) (rs : List Row) → longest c p rs ≡ longest d p rs
+pub longest_same : (c d : ℕ → Option ℕ) → ((lock : ℕ) → lock < 8 → c lock ≡ d lock) → (p : ℕ) (rs : List Row) → longest_in c p rs ≡ longest_in d p rs
 longest_same c d e p [] = refl
 longest_same c d e p (r ∷ rs) = ap₂ max (longest_of_same c d p r 8 e) (longest_same c d e p rs)
 
 -- the blocking by ceilings that were worked out beforehand
-pub blocked_is : (rs lower : List Rank) (k : ℕ) (ceilings : List (Option ℕ)) → ((lock : ℕ) → lock < 8 → get_or ceilings lock None ≡ ceiling (ranked_rows rs) lock) → lower ≡ drop (k + 1) rs → (n : ℕ) → n ≡ ((get_or rs k no_rank).row.suspensions + 1) * longest (λ lock. get_or ceilings lock None) (get_or rs k no_rank).row.priority (ranked_rows lower) → n ≡ blocking (ranked_rows rs) (get_or rs k no_rank).row (ranked_rows (drop (k + 1) rs))
+pub blocked_is : (rs lower : List Rank) (k : ℕ) (ceilings : List (Option ℕ)) → ((lock : ℕ) → lock < 8 → get_or ceilings lock None ≡ ceiling (ranked_rows rs) lock) → lower ≡ drop (k + 1) rs → (n : ℕ) → n ≡ ((get_or rs k no_rank).row.suspensions + 1) * longest_in (λ lock. get_or ceilings lock None) (get_or rs k no_rank).row.priority (ranked_rows lower) → n ≡ blocking (ranked_rows rs) (get_or rs k no_rank).row (ranked_rows (drop (k + 1) rs))
 blocked_is rs lower k ceilings each e n is =
     is
     ∙ ap (λ (m : ℕ). ((get_or rs k no_rank).row.suspensions + 1) * m)
     (longest_same (λ lock. get_or ceilings lock None) (ceiling (ranked_rows rs)) each (get_or rs k no_rank).row.priority (ranked_rows lower)
-    ∙ ap (λ (xs : List Rank). longest (ceiling (ranked_rows rs)) (get_or rs k no_rank).row.priority (ranked_rows xs)) e)
+    ∙ ap (λ (xs : List Rank). longest_in (ceiling (ranked_rows rs)) (get_or rs k no_rank).row.priority (ranked_rows xs)) e)
 
 abbrev needing : ℕ → List Above → ℕ → ℕ → ℕ
 needing n xs v t = n + interference xs v t
@@ -56,7 +56,7 @@ same_above e f g = λ i. to_above (e i) (f i) (g i)
 abbrev met : Load → ℕ → Above
 met l b = record { wait = wait l; jitter = b - l.claim.demand.least; work = l.claim.demand.work }
 
-aboves_more : (ls : List Load) (k : ℕ) (R : ℕ → ℕ) → k < length ls → take (suc k) (aboves ls R) ≡ take k (aboves ls R) ++ met (at ls k) (R k) ∷ []
+aboves_more : (ls : List Load) (k : ℕ) (R : ℕ → ℕ) → k < length ls → take (suc k) (aboves ls R) ≡ take k (aboves ls R) ++ met (load_at ls k) (R k) ∷ []
 aboves_more [] k R h = absurd (not-suc-le-zero h)
 aboves_more (l ∷ ls) zero R h = refl
 aboves_more (l ∷ ls) (suc k) R h = ap (λ xs. met l (R 0) ∷ xs) (aboves_more ls k (λ i. R (suc i)) (omega arith))
@@ -72,7 +72,7 @@ module _ {K : Type 0} (demand : K → Demand) (places : List (Option (Task K))) 
   rows_of_claims [] = refl
   rows_of_claims (r ∷ rs) = ap (λ xs. r.row ∷ xs) (rows_of_claims rs)
 
-  at_loads : (all : List Row) (rs : List Rank) (k : ℕ) → k < length rs → at (loads_of all (map claim rs)) k ≡ record { claim = claim (get_or rs k no_rank); blocked = blocking all (get_or rs k no_rank).row (ranked_rows (drop (suc k) rs)) }
+  at_loads : (all : List Row) (rs : List Rank) (k : ℕ) → k < length rs → load_at (loads_of all (map claim rs)) k ≡ record { claim = claim (get_or rs k no_rank); blocked = blocking all (get_or rs k no_rank).row (ranked_rows (drop (suc k) rs)) }
   at_loads all [] k h = absurd (not-suc-le-zero h)
   at_loads all (r ∷ rs) zero h =
       ap (λ (below : List Row). record { claim = claim r; blocked = blocking all r.row below }) (rows_of_claims rs)
@@ -87,14 +87,14 @@ module _ {K : Type 0} (demand : K → Demand) (places : List (Option (Task K))) 
     pub count : length answers ≡ k
     pub above_count : length higher ≡ k
     pub seen : map above higher ≡ take k (aboves ls (bounds_of answers))
-    pub rows : (j : ℕ) → j < k → RowAnswered (at ls j) (get_or answers j no_answer)
+    pub rows : (j : ℕ) → j < k → RowAnswered (load_at ls j) (get_or answers j no_answer)
     pub bounds : Bounds (system ls) k (bounds_of answers) (vectors_of answers)
 
   module _ (rs : List Rank) (k : ℕ) (within : k < length rs) (blocked : ℕ) (is_blocked : blocked ≡ blocking (ranked_rows rs) (get_or rs k no_rank).row (ranked_rows (drop (k + 1) rs))) where
     abbrev all_loads : List Load
     all_loads = loads (map claim rs)
 
-    here : at all_loads k ≡ record { claim = claim (get_or rs k no_rank); blocked = blocked }
+    here : load_at all_loads k ≡ record { claim = claim (get_or rs k no_rank); blocked = blocked }
     here =
         at_loads (rows (map claim rs)) rs k within
         ∙ ap (λ (n : ℕ). record { claim = claim (get_or rs k no_rank); blocked = n })
@@ -105,7 +105,7 @@ module _ {K : Type 0} (demand : K → Demand) (places : List (Option (Task K))) 
       -- what holds of the need that the code sees holds of the row's
       settled : (P : (ℕ → ℕ → ℕ) → ℕ → ℕ → Type 0) → P (need_with demand higher ((claim (get_or rs k no_rank)).demand.own + ((get_or rs k no_rank).row.suspension + blocked))) (get_or rs k no_rank).row.deadline (2 ^ length higher) → P ((system all_loads).need k (bounds_of answers)) ((system all_loads).deadline k) ((system all_loads).vectors k)
       settled P p =
-          let alone : (claim (get_or rs k no_rank)).demand.own + ((get_or rs k no_rank).row.suspension + blocked) ≡ (at all_loads k).claim.demand.own + wait (at all_loads k) = sym (ap (λ (l : Load). l.claim.demand.own + wait l) here) in
+          let alone : (claim (get_or rs k no_rank)).demand.own + ((get_or rs k no_rank).row.suspension + blocked) ≡ (load_at all_loads k).claim.demand.own + wait (load_at all_loads k) = sym (ap (λ (l : Load). l.claim.demand.own + wait l) here) in
           let needs : need_with demand higher ((claim (get_or rs k no_rank)).demand.own + ((get_or rs k no_rank).row.suspension + blocked)) ≡ (system all_loads).need k (bounds_of answers) =
           ap₂ needing alone so_far.seen
           in
@@ -121,7 +121,7 @@ module _ {K : Type 0} (demand : K → Demand) (places : List (Option (Task K))) 
             none = settled NoCover none;
           }
 
-      pub late_number : (get_or rs k no_rank).row.number ≡ (at all_loads k).claim.row.number
+      pub late_number : (get_or rs k no_rank).row.number ≡ (load_at all_loads k).claim.row.number
       late_number = sym (ap (λ (l : Load). l.claim.row.number) here)
 
       module _ (a : Answer) (h : Higher K) (answered : RankAnswered demand places newcomer higher (get_or rs k no_rank) blocked a h) where
@@ -143,7 +143,7 @@ module _ {K : Type 0} (demand : K → Demand) (places : List (Option (Task K))) 
         -- a bound stays one, since the bounds above it stay
         still_bound : (j t v : ℕ) → j ≤ k → Bound (system all_loads) (bounds_of answers) j t v → Bound (system all_loads) (bounds_of more) j t v
         still_bound j t v l b =
-            subst (λ (xs : List Above). LeastCover (needing ((at all_loads j).claim.demand.own + wait (at all_loads j)) xs) ((system all_loads).deadline j) ((system all_loads).vectors j) t v)
+            subst (λ (xs : List Above). LeastCover (needing ((load_at all_loads j).claim.demand.own + wait (load_at all_loads j)) xs) ((system all_loads).deadline j) ((system all_loads).vectors j) t v)
             (aboves_same all_loads j (bounds_of answers) (bounds_of more) (λ i m. kept_bound i (omega arith))) b
 
         bounds_kept : (j : ℕ) → j < k → Bound (system all_loads) (bounds_of more) j (bounds_of more j) (vectors_of more j)
@@ -156,12 +156,12 @@ module _ {K : Type 0} (demand : K → Demand) (places : List (Option (Task K))) 
             subst (λ (x : Answer). Bound (system all_loads) (bounds_of more) k x.bound x.vector) (sym new_answer)
             (still_bound k a.bound a.vector (omega arith) (settled (λ n d m. LeastCover n d m a.bound a.vector) answered.bound))
 
-        row_here : RowAnswered (at all_loads k) (get_or more k no_answer)
+        row_here : RowAnswered (load_at all_loads k) (get_or more k no_answer)
         row_here =
-            subst (λ (x : Answer). RowAnswered (at all_loads k) x) (sym new_answer)
+            subst (λ (x : Answer). RowAnswered (load_at all_loads k) x) (sym new_answer)
             (subst (λ (l : Load). RowAnswered l a) (sym here) (record { number = answered.number; blocking = answered.blocking }))
 
-        met_here : above h ≡ met (at all_loads k) (bounds_of more k)
+        met_here : above h ≡ met (load_at all_loads k) (bounds_of more k)
         met_here =
             same_above answered.wait answered.jitter (ap (λ (d : Demand). d.work) answered.kind)
             ∙ ap₂ met (sym here) (ap (λ (x : Answer). x.bound) (sym new_answer))
@@ -183,8 +183,8 @@ module _ {K : Type 0} (demand : K → Demand) (places : List (Option (Task K))) 
               above_count = let c = so_far.above_count in omega (arith, length-append higher (h ∷ []));
               seen = seen_more;
               rows =
-                  up_to (λ j. RowAnswered (at all_loads j) (get_or more j no_answer))
-                  (λ j l. subst (λ (x : Answer). RowAnswered (at all_loads j) x) (sym (kept_answer j l)) (so_far.rows j l)) row_here;
+                  up_to (λ j. RowAnswered (load_at all_loads j) (get_or more j no_answer))
+                  (λ j l. subst (λ (x : Answer). RowAnswered (load_at all_loads j) x) (sym (kept_answer j l)) (so_far.rows j l)) row_here;
               bounds = up_to (λ j. Bound (system all_loads) (bounds_of more) j (bounds_of more j) (vectors_of more j)) bounds_kept bound_here;
             }
 

@@ -11,6 +11,7 @@ pub mod Jumps
 pub mod Rising
 pub mod Ranked
 pub mod Judging
+pub mod Reordered
 pub mod Order
 pub mod Verdicts
 pub mod Tested

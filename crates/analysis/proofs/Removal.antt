@@ -4,14 +4,14 @@ use Rattle.demand.specs.Demand.{Lawful}
 use Rattle.analysis.specs.declared.Row.{Row}
 use Rattle.analysis.specs.Cover.{interference}
 use Rattle.analysis.specs.Plans.{Window, Bounds}
-use Rattle.analysis.specs.Ranks.{Claim, Load, wait, aboves, at, rows, loads_of, loads, ranking, system, system_of}
+use Rattle.analysis.specs.Ranks.{Claim, Load, wait, aboves, load_at, rows, loads_of, loads, ranking, system, system_of}
 use Rattle.analysis.specs.Removal.{SomeOf, none, keep, leave, rank_of, RemovalKeepsInTime}
 use Rattle.analysis.proofs.Blocked.{Lighter, lighter, lighter_rank}
 use Rattle.analysis.proofs.Easier as easier
 use Rattle.analysis.proofs.Easier.{Easier, Milder, interference_easier}
-use Rattle.analysis.proofs.Lawful.{AllLawful, LawfulLoads, lawful_loads, grows}
+use Rattle.analysis.proofs.Lawful.{AllLawful, LawfulLoads, first_lawful, others_lawful, lawful_loads, grows}
 use Rattle.analysis.proofs.Ranked.{length_ranked}
-use Rattle.analysis.proofs.SomeRanked.{some_ranked}
+use Rattle.analysis.proofs.SomeRanked.{all_kept, some_ranked}
 use Rattle.analysis.proofs.Settled.{NoLargerBound, bound_exists, put, bounds_more, no_larger_more}
 
 milder : (l m : Load) → Lighter l m → Lawful m.claim.demand → (q r : ℕ) → q ≤ r → Milder (record { wait = wait l; jitter = q - l.claim.demand.least; work = l.claim.demand.work }) (record { wait = wait m; jitter = r - m.claim.demand.least; work = m.claim.demand.work })
@@ -33,21 +33,21 @@ fewer_rows : {ls ms : List Load} (s : SomeOf Lighter ls ms) → LawfulLoads ms �
 fewer_rows none lawful k h Q R le v = absurd (not-suc-le-zero h)
 fewer_rows (keep e s) lawful zero h Q R le v = (0, omega arith, easier.none)
 fewer_rows (keep {a = l} {b = m} {xs = ls} {ys = ms} e s) lawful (suc k) h Q R le v =
-    let rest = fewer_rows s lawful.1 k (omega arith) (λ i. Q (suc i)) (λ i. R (suc i)) (λ i j. le (suc i) (omega arith)) (v / 2) in
+    let rest = fewer_rows s (others_lawful m ms lawful) k (omega arith) (λ i. Q (suc i)) (λ i. R (suc i)) (λ i j. le (suc i) (omega arith)) (v / 2) in
     let u : ℕ = rest.0 in
     let small : u < 2 ^ k = rest.1 in
     let half : (v % 2 + 2 * u) / 2 ≡ u = omega arith in
     let bit : (v % 2 + 2 * u) % 2 ≡ v % 2 = omega arith in (
       v % 2 + 2 * u,
       omega (arith, double k),
-      easier.keep (milder l m e lawful.0 (Q 0) (R 0) (le 0 (omega arith))) bit
+      easier.keep (milder l m e (first_lawful m ms lawful) (Q 0) (R 0) (le 0 (omega arith))) bit
           (subst (λ (n : ℕ). Easier (take k (aboves ls (λ i. Q (suc i)))) n (take (rank_of s k) (aboves ms (λ i. R (suc i)))) (v / 2)) (sym half) rest.2),
     )
-fewer_rows (leave s) lawful k h Q R le v =
-    let rest = fewer_rows s lawful.1 k h Q (λ i. R (suc i)) le (v / 2) in
+fewer_rows (leave {b = m} {ys = ms} s) lawful k h Q R le v =
+    let rest = fewer_rows s (others_lawful m ms lawful) k h Q (λ i. R (suc i)) le (v / 2) in
     (rest.0, rest.1, easier.leave rest.2)
 
-at_rank : {ls ms : List Load} (s : SomeOf Lighter ls ms) (k : ℕ) → k < length ls → Lighter (at ls k) (at ms (rank_of s k)) × (rank_of s k < length ms)
+at_rank : {ls ms : List Load} (s : SomeOf Lighter ls ms) (k : ℕ) → k < length ls → Lighter (load_at ls k) (load_at ms (rank_of s k)) × (rank_of s k < length ms)
 at_rank none k h = absurd (not-suc-le-zero h)
 at_rank (keep e s) zero h = (e, omega arith)
 at_rank (keep e s) (suc k) h = let r = at_rank s k (omega arith) in (r.0, omega (arith, r.1))
@@ -58,9 +58,9 @@ window_left : {ls ms : List Load} (s : SomeOf Lighter ls ms) → LawfulLoads ms 
 window_left {ls} {ms} s lawful k h Q R le v t w =
     let rest = fewer_rows s lawful k h Q R le v in
     let here = (at_rank s k h).0 in
-    let own : (at ls k).claim.demand.own ≡ (at ms (rank_of s k)).claim.demand.own = ap (λ (c : Claim). c.demand.own) here.claim in
-    let suspension : (at ls k).claim.row.suspension ≡ (at ms (rank_of s k)).claim.row.suspension = ap (λ (c : Claim). c.row.suspension) here.claim in
-    let deadline : (at ls k).claim.row.deadline ≡ (at ms (rank_of s k)).claim.row.deadline = ap (λ (c : Claim). c.row.deadline) here.claim in
+    let own : (load_at ls k).claim.demand.own ≡ (load_at ms (rank_of s k)).claim.demand.own = ap (λ (c : Claim). c.demand.own) here.claim in
+    let suspension : (load_at ls k).claim.row.suspension ≡ (load_at ms (rank_of s k)).claim.row.suspension = ap (λ (c : Claim). c.row.suspension) here.claim in
+    let deadline : (load_at ls k).claim.row.deadline ≡ (load_at ms (rank_of s k)).claim.row.deadline = ap (λ (c : Claim). c.row.deadline) here.claim in
     let blocked = here.blocked in
     let more : interference (take k (aboves ls Q)) rest.0 t ≤ interference (take (rank_of s k) (aboves ms R)) v t = interference_easier t t (omega arith) rest.2 in
     let limit = w.to_deadline in
@@ -106,11 +106,6 @@ length_loads : (all : List Row) (cs : List Claim) → length (loads_of all cs) �
 length_loads all [] = refl
 length_loads all (c ∷ cs) = ap suc (length_loads all cs)
 
-lawful_kept : {xs ys : List Claim} → SomeOf ◌≡◌ xs ys → AllLawful ys → AllLawful xs
-lawful_kept none h = tt
-lawful_kept (keep e s) h = (subst (λ (c : Claim). Lawful c.demand) (sym e) h.0, lawful_kept s h.1)
-lawful_kept (leave s) h = lawful_kept s h.1
-
 -- the ranked rows xs, which are some of ys, are in time with bounds no larger
 record RankedStill (xs ys : List Claim) (kept : SomeOf ◌≡◌ xs ys) (R : ℕ → ℕ) : Type 0 where
   Q : ℕ → ℕ
@@ -129,7 +124,7 @@ ranked_still ys lawful R V bounds xs kept =
   where
     left : SoFar (lighter kept) R (length xs)
     left =
-        all_left (lighter kept) (lawful_loads (rows xs) xs (lawful_kept kept lawful)) (lawful_loads (rows ys) ys lawful) R V
+        all_left (lighter kept) (lawful_loads (rows xs) xs (all_kept (λ (c : Claim). Lawful c.demand) kept lawful)) (lawful_loads (rows ys) ys lawful) R V
         (subst (λ (n : ℕ). Bounds (system (loads ys)) n R V) (sym (length_loads (rows ys) ys)) bounds)
         (length xs) (let e = length_loads (rows xs) xs in omega arith)
 

@@ -1,14 +1,13 @@
 -- What a judgement of ranked rows says of the rows that are judged together. Assumes nothing.
-use Rattle.std.proofs.Common.{◌≡◌, ℕ, ◌≤◌, List, [], ◌∷◌, ◌++◌, map, length, Ok, Err, Option, Result, sym, ap, ◌∙◌, subst, inr, arith}
+use Rattle.std.proofs.Common.{◌≡◌, ℕ, ◌≤◌, List, [], ◌∷◌, ◌++◌, map, length, Option, sym, ap, ◌∙◌, subst, arith}
 use lib.ListN.{length-map}
 use Rattle.demand.specs.Demand.{Demand, Lawful}
 use Rattle.analysis.specs.declared.Task.{Task}
 use Rattle.analysis.specs.declared.Answer.{Answer}
 use Rattle.analysis.specs.declared.Rank.{Rank}
-use Rattle.analysis.specs.declared.answers.Answers.{Answers}
-use Rattle.analysis.specs.declared.judgement.JudgeRefusal.{JudgeRefusal}
+use Rattle.analysis.specs.declared.TheConstants.{MOST_ROWS}
 use Rattle.analysis.specs.Candidates.{claims, claim_of, RanksAll}
-use Rattle.analysis.specs.Judge.{Answered, LateRow, InTime, SomeLate, RanksJudged, Judged, judge_late, answers_of}
+use Rattle.analysis.specs.Judge.{Answered, LateRow, InTime, SomeLate}
 use Rattle.analysis.specs.Plans.{LateExactlyWhenNoPlan}
 use Rattle.analysis.specs.Ranks.{Claim, ranking, loads, rows, system}
 use Rattle.analysis.specs.Removal.{RemovalKeepsInTime}
@@ -35,8 +34,8 @@ module _ {K : Type 0} (demand : K → Demand) (lawful : (k : K) → Lawful (dema
   pub removal : RemovalKeepsInTime judged
   removal = removal_keeps_in_time judged all_lawful
 
-  module _ (ranks : List Rank) (all : RanksAll demand places newcomer ranks) (low : length ranks ≤ 12) where
-    few : length judged ≤ 12
+  module _ (ranks : List Rank) (all : RanksAll demand places newcomer ranks) (low : length ranks ≤ MOST_ROWS) where
+    few : length judged ≤ MOST_ROWS
     few =
         let count : length judged ≡ length ranks = sym (length_ranked judged) ∙ sym (ap length all) ∙ length-map ranks (claim_of demand places newcomer) in
         omega arith
@@ -50,8 +49,3 @@ module _ {K : Type 0} (demand : K → Demand) (lawful : (k : K) → Lawful (dema
     some_late n l =
         let first : LateRow (loads (ranking judged)) n = subst (λ (cs : List Claim). LateRow (loads cs) n) all l in
         record { few = few; first = first; no_plan = late_no_plan (system (loads (ranking judged))) needs_grow first.0 first.1 }
-
-    -- what is answered for the ranks is the judgement
-    pub verdict : (r : Result Answers JudgeRefusal) → RanksJudged (map (claim_of demand places newcomer) ranks) r → Judged judged r
-    verdict (Ok a) answered = in_time (answers_of a) answered
-    verdict (Err e) late = inr (late.0, some_late (judge_late e) late.1)

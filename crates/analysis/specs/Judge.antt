@@ -1,8 +1,9 @@
 -- What is answered for ranked rows. Assumes nothing.
 -- How to read it: cs are rows with the meanings of their kinds, ls ranked rows with their blocking. `Judged` at the end is what `judge` promises;
--- `RankJudged` and `RanksJudged` are what its steps promise, for one rank and for all of them.
-use Rattle.std.specs.Prelude.{◌≡◌, ℕ, ◌+◌, ◌-◌, ◌^◌, ◌<◌, ◌≤◌, ◌⊎◌, List, length, get_or, take, Some, None, Ok, Err, Option, Result, slice_index_or}
+-- `RankJudged` is what is promised of one rank.
+use Rattle.std.specs.Prelude.{◌≡◌, ℕ, ◌+◌, ◌-◌, ◌^◌, ◌<◌, ◌≤◌, ◌⊎◌, List, length, take, Some, None, Ok, Err, Option, Result, slice_index_or}
 use Rattle.demand.specs.Demand.{Demand}
+use Rattle.analysis.specs.declared.TheConstants.{MOST_ROWS}
 use Rattle.analysis.specs.declared.Answer.{Answer}
 use Rattle.analysis.specs.declared.answers.Answers.{Answers}
 use Rattle.analysis.specs.declared.judgement.JudgeRefusal.{JudgeRefusal}
@@ -12,7 +13,7 @@ use Rattle.analysis.specs.declared.Rank.{Rank}
 use Rattle.analysis.specs.declared.Task.{Task}
 use Rattle.analysis.specs.Candidates.{candidate, demand_of, kind_demand, need_with}
 use Rattle.analysis.specs.Plans.{LeastCover, NoCover, Bounds, FirstLate, NoPlan, BestPlan}
-use Rattle.analysis.specs.Ranks.{Claim, Load, at, ranking, loads, system, system_of}
+use Rattle.analysis.specs.Ranks.{Claim, Load, load_at, ranking, loads, system, system_of}
 
 module _ {K : Type 0} (demand : K → Demand) (places : List (Option (Task K))) (newcomer : Option (Task K)) where
   -- the demand of the task at a rank's place
@@ -40,11 +41,11 @@ no_answer = record { number = 0; bound = 0; vector = 0; blocking = 0 }
 
 -- the bound that is answered for a rank
 abbrev pub bounds_of : List Answer → ℕ → ℕ
-bounds_of answers k = (get_or answers k no_answer).bound
+bounds_of answers k = (slice_index_or answers k no_answer).bound
 
 -- the vector that is answered for a rank
 abbrev pub vectors_of : List Answer → ℕ → ℕ
-vectors_of answers k = (get_or answers k no_answer).vector
+vectors_of answers k = (slice_index_or answers k no_answer).vector
 
 -- the answer names the row and its blocking
 pub record RowAnswered (l : Load) (a : Answer) : Type 0 where
@@ -54,7 +55,7 @@ pub record RowAnswered (l : Load) (a : Answer) : Type 0 where
 -- each ranked row has its answer, highest first, with its bound and vector
 pub record Answered (ls : List Load) (answers : List Answer) : Type 0 where
   pub count : length answers ≡ length ls
-  pub rows : (k : ℕ) → k < length ls → RowAnswered (at ls k) (slice_index_or answers k no_answer)
+  pub rows : (k : ℕ) → k < length ls → RowAnswered (load_at ls k) (slice_index_or answers k no_answer)
   pub bounds : Bounds (system ls) (length ls) (bounds_of answers) (vectors_of answers)
 
 -- these rows, given in any order, have their answers, highest priority first
@@ -67,17 +68,17 @@ answers_of a = take a.count a.rows
 
 -- n is the number of the first late row
 abbrev pub LateRow : List Load → ℕ → Type 0
-LateRow ls n = (k : ℕ) × FirstLate (system ls) k × (n ≡ (at ls k).claim.row.number)
+LateRow ls n = (k : ℕ) × FirstLate (system ls) k × (n ≡ (load_at ls k).claim.row.number)
 
 -- All rows are in time: each has its bound and vector, and together the vectors are the best plan.
 pub record InTime (cs : List Claim) (answers : List Answer) : Type 0 where
-  pub few : length cs ≤ 12
+  pub few : length cs ≤ MOST_ROWS
   pub answered : Answered (loads (ranking cs)) answers
   pub best_plan : BestPlan (system_of cs) (bounds_of answers) (vectors_of answers)
 
 -- Some row is late, n is the first of them, and no plan brings all in time.
 pub record SomeLate (cs : List Claim) (n : ℕ) : Type 0 where
-  pub few : length cs ≤ 12
+  pub few : length cs ≤ MOST_ROWS
   pub first : LateRow (loads (ranking cs)) n
   pub no_plan : NoPlan (system_of cs)
 
@@ -91,17 +92,12 @@ abbrev pub judge_late : JudgeRefusal → ℕ
 judge_late TooMany = 0
 judge_late (Late n) = n
 
--- Rows are refused by number 10, which names none of them, where they are more than twelve; else by number 11, which
+-- Rows are refused by number 10, which names none of them, where they are more than MOST_ROWS; else by number 11, which
 -- names the first late one.
 abbrev pub JudgementRefused : List Claim → ℕ → ℕ → Type 0
 JudgementRefused cs number late =
-    ((number ≡ 10) × (late ≡ 0) × (12 < length cs))
+    ((number ≡ 10) × (late ≡ 0) × (MOST_ROWS < length cs))
     ⊎ ((number ≡ 11) × SomeLate cs late)
-
--- what is answered for ranked rows, of which there are never too many
-abbrev pub RanksJudged : List Claim → Result Answers JudgeRefusal → Type 0
-RanksJudged cs (Ok a) = Answered (loads cs) (answers_of a)
-RanksJudged cs (Err e) = (judge_number e ≡ 11) × LateRow (loads cs) (judge_late e)
 
 -- what the judgement of these rows is
 abbrev pub Judged : List Claim → Result Answers JudgeRefusal → Type 0

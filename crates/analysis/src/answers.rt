@@ -1,17 +1,24 @@
 // What is answered for a set that is in time.
-ghost use Rattle.std.specs.Prelude.{◌≡◌, ◌+◌, ◌<◌, [], ◌∷◌, ◌++◌};
-ghost use Rattle.analysis.specs.Judge.{answers_of};
+ghost use Rattle.std.specs.Prelude.{◌≡◌, ◌+◌, ◌<◌, ◌≤◌, [], ◌∷◌, ◌++◌};
+ghost use Rattle.analysis.specs.declared.TheConstants.{MOST_ROWS};
 
 use super::{Answer, MOST_ROWS};
 
-// The answers for `count` rows, highest first. A caller can copy them, as it could not copy an `ArrayVec`.
-#[derive(Clone, Copy)]
+/// The answers for the rows of a set that is in time: as many as there are rows, so at most [`MOST_ROWS`].
+///
+/// Two of them are equal where [`rows`](Answers::rows) gives the same.
+// A caller can copy them, as it could not copy an `ArrayVec`. The entries behind the count are always the default, so the
+// derived comparison goes by the rows.
+#[derive(Clone, Copy, Debug, PartialEq, Eq)]
 pub struct Answers {
     pub(crate) count: usize,
     pub(crate) rows: [Answer; MOST_ROWS],
+    ghost in_range: { count ≤ MOST_ROWS },
 }
 
 impl Answers {
+    ghost use Rattle.analysis.specs.Judge.{answers_of};
+
     // No answer yet.
     pub(crate) fn none() -> Answers
         ensures count { result.count ≡ 0 }
@@ -25,7 +32,7 @@ impl Answers {
 
     // One answer more.
     pub(crate) fn push(&mut self, answer: Answer)
-        requires { self.old.count < 12 }
+        requires { self.old.count < MOST_ROWS }
         ensures count { self.new.count ≡ self.old.count + 1 }
         ensures answers { answers_of self.new ≡ answers_of self.old ++ answer ∷ [] }
     {
@@ -33,10 +40,10 @@ impl Answers {
         self.count += 1;
     }
 
-    // The answers, highest row first.
+    /// The answers, one for each row, highest priority first.
     pub fn rows(&self) -> &[Answer]
         ensures { result.now ≡ answers_of self.now }
     {
-        &self.rows[0..self.count.min(MOST_ROWS)]
+        &self.rows[..self.count]
     }
 }

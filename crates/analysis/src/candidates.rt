@@ -15,7 +15,8 @@ pub(crate) struct Candidates<'a, K> {
 impl<'a, K: Kind> Candidates<'a, K> {
     // The kind of the task at a place, if there is one.
     pub(crate) fn kind(&self, place: usize) -> Option<&'a K>
-        ensures { kind_demand K.demand result ≡ demand_of K.demand (candidate self.now.places.now self.now.newcomer.now place) }
+        ensures { kind_demand K.demand result
+            ≡ demand_of K.demand (candidate self.now.places.now self.now.newcomer.now place) }
     {
         let task = self.places.get(place).unwrap_or(self.newcomer).as_ref()?;
         Some(&task.kind)

@@ -1,7 +1,8 @@
 // What a row needs by a window, under a vector. Sums beyond u64 count as its largest number.
-ghost use Rattle.std.specs.Prelude.{◌≡◌, ◌+◌, ◌-◌, ◌^◌, min, if◌then◌else◌};
-ghost use Rattle.demand.specs.Demand.{window as clipped};
-ghost use Rattle.analysis.specs.Candidates.{kind_demand, need_with};
+ghost use Rattle.std.specs.Prelude.{◌≡◌, ◌+◌, if◌then◌else◌};
+ghost use Rattle.demand.specs.Demand.{window as in_u32};
+ghost use Rattle.analysis.specs.Candidates.{need_with, work_of};
+ghost use Rattle.analysis.specs.Cover.{sum_in_u64};
 
 use super::higher::{Higher, HigherRows};
 use demand::Kind;
@@ -14,21 +15,24 @@ struct Sum {
 }
 
 impl Sum {
-    // With one higher row more.
-    fn with_row<K: Kind>(self, row: &Higher<'_, K>, chosen: bool, window: u32) -> Sum
-        ensures waits { result.waits ≡ min (self.waits + (if chosen then row.now.wait else 0)) (2 ^ 64 - 1) }
-        ensures need { result.need ≡ min (self.need + (kind_demand K.demand row.now.kind).work (clipped ((window + result.waits) + (if chosen then 0 else row.now.jitter)))) (2 ^ 64 - 1) }
+    // With one higher row more; `as_work` says that its bit is 1.
+    fn with_row<K: Kind>(self, row: &Higher<'_, K>, as_work: bool, window: u32) -> Sum
+        ensures waits { result.waits
+            ≡ sum_in_u64 (self.waits + (if as_work then row.now.wait else 0)) }
+        ensures need { let jitter = if as_work then 0 else row.now.jitter in
+            let longer = window + result.waits + jitter in
+            result.need ≡ sum_in_u64 (self.need + work_of K.demand row.now (in_u32 longer)) }
     {
-        let (wait, jitter) = if chosen {
+        let (wait, jitter) = if as_work {
             (row.wait, 0)
         } else {
             (0, row.jitter)
         };
         let waits = self.waits.saturating_add(wait);
-        let stretched = u64::from(window)
+        let longer = u64::from(window)
             .saturating_add(waits)
             .saturating_add(jitter);
-        let work = row.work(stretched.min(u64::from(u32::MAX)) as u32);
+        let work = row.work(longer.min(u64::from(u32::MAX)) as u32);
         Sum {
             waits,
             need: self.need.saturating_add(u64::from(work)),
@@ -43,15 +47,15 @@ pub(crate) fn need_by<K: Kind>(
     vector: u32,
     window: u32,
 ) -> u64
-    ensures { result ≡ min (need_with K.demand higher.now.items alone vector window) (2 ^ 64 - 1) }
+    ensures { result ≡ sum_in_u64 (need_with K.demand higher.now.items alone vector window) }
 {
     let mut sum = Sum {
         waits: 0,
         need: alone,
     };
     for (i, row) in higher.iter().enumerate().rev() {
-        let chosen = (vector >> i) % 2 == 1;
-        sum = sum.with_row(row, chosen, window);
+        let as_work = (vector >> i) % 2 == 1;
+        sum = sum.with_row(row, as_work, window);
     }
     sum.need
 }

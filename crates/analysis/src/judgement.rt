@@ -1,7 +1,7 @@
 // Whether a set of tasks meets its deadlines.
-ghost use Rattle.std.specs.Prelude.{◌≡◌, ◌+◌, ◌^◌, ◌≤◌, map, length};
-ghost use Rattle.analysis.specs.Candidates.{claim_of, claims, kind_demand};
-ghost use Rattle.analysis.specs.Judge.{RankJudged, judge_number, RanksJudged, Judged};
+ghost use Rattle.std.specs.Prelude.{◌≡◌, ◌+◌, ◌^◌, ◌≤◌, length};
+ghost use Rattle.analysis.specs.Candidates.{RanksAll, claims, kind_demand};
+ghost use Rattle.analysis.specs.Judge.{Judged, RankJudged, judge_number};
 ghost use Rattle.analysis.specs.Plans.{LateExactlyWhenNoPlan};
 ghost use Rattle.analysis.specs.Ranks.{ranking, system_of, AnyOrder, HighestFirst};
 ghost use Rattle.analysis.specs.Removal.{RemovalKeepsInTime};
@@ -11,8 +11,10 @@ use super::candidates::Candidates;
 use super::higher::{Higher, HigherRows};
 use super::locks::{blocking_of, ceilings_of};
 use super::search::search;
-use super::{Answer, Rank, Task};
+use super::{Answer, MOST_ROWS, Rank, Task};
 use demand::Kind;
+use std::error::Error;
+use std::fmt;
 
 // The longest and the shortest job of a kind; both 0 where there is none.
 fn jobs_of<K: Kind>(kind: Option<&K>) -> (u32, u32)
@@ -31,7 +33,8 @@ impl<'a, K: Kind> Candidates<'a, K> {
         blocking: u64,
     ) -> Option<(Answer, Higher<'a, K>)>
         requires { blocking + 2 ^ 32 ≤ 2 ^ 64 }
-        ensures { RankJudged K.demand self.now.places.now self.now.newcomer.now higher.now.items rank.now blocking result }
+        ensures { RankJudged K.demand self.now.places.now self.now.newcomer.now
+            higher.now.items rank.now blocking result }
     {
         let wait = u64::from(rank.row.suspension) + blocking;
         let kind = self.kind(rank.place);
@@ -52,10 +55,11 @@ impl<'a, K: Kind> Candidates<'a, K> {
         Some((answer, met))
     }
 
-    // The answers for all ranks, unless some row is late.
+    // The answers for all of them, by their ranks, unless some row is late.
     fn judge_ranked(&self, ranks: &[Rank]) -> Result<Answers, JudgeRefusal>
-        requires { length ranks.now ≤ 12 }
-        ensures { RanksJudged (map (claim_of K.demand self.now.places.now self.now.newcomer.now) ranks.now) result }
+        requires few { length ranks.now ≤ MOST_ROWS }
+        requires ranked { RanksAll K.demand self.now.places.now self.now.newcomer.now ranks.now }
+        ensures { Judged (claims K.demand self.now.places.now self.now.newcomer.now) result }
     {
         let ceilings = ceilings_of(ranks);
         let mut answers = Answers::none();
@@ -72,17 +76,29 @@ impl<'a, K: Kind> Candidates<'a, K> {
     }
 }
 
-// Why a set of tasks is not in time.
+/// Why a set of tasks gets no answers.
 #[derive(Clone, Copy, PartialEq, Eq, Debug)]
 pub enum JudgeRefusal {
-    // more than twelve rows
+    /// Number 10: there are more than [`MOST_ROWS`] rows.
     TooMany,
-    // some row is late; the number is that of the first one
+    /// Number 11: some row is late, which means that no window up to its deadline covers what is needed by it. The number is
+    /// that of the highest such row.
     Late(u32),
 }
 
+impl fmt::Display for JudgeRefusal {
+    fn fmt<W: fmt::Write>(&self, f: &mut fmt::Formatter<W>) -> fmt::Result {
+        match self {
+            JudgeRefusal::TooMany => write!(f, "check 10: there are more than {MOST_ROWS} rows"),
+            JudgeRefusal::Late(number) => write!(f, "check 11: row {number} can miss its deadline"),
+        }
+    }
+}
+
+impl Error for JudgeRefusal {}
+
 impl JudgeRefusal {
-    /// 10 for too many rows and 11 for a late one, as a table numbers these two.
+    /// The number of the check: 10 for too many rows and 11 for a late one, as a table numbers these two.
     pub fn number(self) -> u32
         ensures { result ≡ judge_number self }
     {
@@ -93,16 +109,25 @@ impl JudgeRefusal {
     }
 }
 
-// Judges the tasks at the places and the newcomer, if any, together.
+/// Judges the tasks at the places and the newcomer, if any, together: their answers, highest priority first, where all rows
+/// are in time.
+///
+/// It is refused by number 10 where there are more than [`MOST_ROWS`] rows, and else by number 11 where some row is late. The
+/// numbers of the rows may be any, and those of two rows may be the same. What is answered depends on the arguments alone.
+#[tactic(auto, using(crate::proofs::AnyOrder::any_order))]
 pub fn judge<K: Kind>(
     places: &[Option<Task<K>>],
     newcomer: &Option<Task<K>>,
 ) -> Result<Answers, JudgeRefusal>
     ensures judged { Judged (claims K.demand places.now newcomer.now) result }
-    ensures late_exactly_when_no_plan { LateExactlyWhenNoPlan (system_of (claims K.demand places.now newcomer.now)) }
+
+    // What is answered rests on these, which hold of any rows.
+    ensures late_exactly_when_no_plan { LateExactlyWhenNoPlan
+        (system_of (claims K.demand places.now newcomer.now)) }
     ensures removal_keeps_in_time { RemovalKeepsInTime (claims K.demand places.now newcomer.now) }
     ensures any_order { AnyOrder (claims K.demand places.now newcomer.now) }
-    ensures highest_first { HighestFirst (claims K.demand places.now newcomer.now) (ranking (claims K.demand places.now newcomer.now)) }
+    ensures highest_first { let rows = claims K.demand places.now newcomer.now in
+        HighestFirst rows (ranking rows) }
 {
     let candidates = Candidates { places, newcomer };
     let ranks = candidates.ranks()?;

@@ -1,6 +1,6 @@
 // Ceilings of locks, and how long a row can be blocked.
-ghost use Rattle.std.specs.Prelude.{◌≡◌, ℕ, ◌+◌, ◌*◌, ◌^◌, ◌<◌, ◌≤◌, length, get_or, if◌then◌else◌, None, slice_index_or};
-ghost use Rattle.analysis.specs.Locks.{ceiling, reaches, longest_of, longest};
+ghost use Rattle.std.specs.Prelude.{◌≡◌, ℕ, ◌+◌, ◌*◌, ◌^◌, ◌<◌, ◌≤◌, length, if◌then◌else◌};
+ghost use Rattle.analysis.specs.Locks.{ceiling, ceiling_at, longest_in, longest_in_row, reaches};
 ghost use Rattle.analysis.specs.Places.{ranked_rows};
 
 use super::{LOCKS, Rank, Row};
@@ -8,7 +8,7 @@ use std::array;
 
 // The greatest priority among the rows that use the lock, if any does.
 fn ceiling_of(ranks: &[Rank], lock: usize) -> Option<u32>
-    requires { lock < 8 }
+    requires { lock < LOCKS }
     ensures { result ≡ ceiling (ranked_rows ranks.now) lock }
 {
     ranks
@@ -18,10 +18,13 @@ fn ceiling_of(ranks: &[Rank], lock: usize) -> Option<u32>
         .max()
 }
 
-// The ceiling of each lock.
+/// The ceiling of each lock, by its number: the greatest priority among the rows that use it, or `None` where no row does.
+///
+/// The ranks may stand in any order, and their places do not matter.
 pub fn ceilings_of(ranks: &[Rank]) -> [Option<u32>; LOCKS]
-    ensures count { length result ≡ 8 }
-    ensures each { (lock : ℕ) → lock < 8 → slice_index_or result lock None ≡ ceiling (ranked_rows ranks.now) lock }
+    ensures count { length result ≡ LOCKS }
+    ensures each { (lock : ℕ) → lock < LOCKS
+        → ceiling_at result lock ≡ ceiling (ranked_rows ranks.now) lock }
 {
     array::from_fn(|lock| ceiling_of(ranks, lock))
 }
@@ -36,10 +39,9 @@ fn blocking_section(section: u32, ceiling: Option<u32>, priority: u32) -> u32
     }
 }
 
-// The longest section of the row on a lock whose ceiling is at least the priority. Ceilings and priority go on
-// together from `longest_of_all` to here and no further: no plainer as a struct.
+// The longest section of the row on a lock whose ceiling is at least the priority.
 fn longest_section(ceilings: &[Option<u32>; LOCKS], priority: u32, row: &Row) -> u32
-    ensures { result ≡ longest_of (λ lock. get_or ceilings.now lock None) priority row.now 8 }
+    ensures { result ≡ longest_in_row (ceiling_at ceilings.now) priority row.now LOCKS }
 {
     row.sections
         .iter()
@@ -51,7 +53,7 @@ fn longest_section(ceilings: &[Option<u32>; LOCKS], priority: u32, row: &Row) ->
 
 // The longest section of these rows that can block the priority.
 fn longest_of_all(ceilings: &[Option<u32>; LOCKS], priority: u32, rows: &[Rank]) -> u32
-    ensures { result ≡ longest (λ lock. get_or ceilings.now lock None) priority (ranked_rows rows.now) }
+    ensures { result ≡ longest_in (ceiling_at ceilings.now) priority (ranked_rows rows.now) }
 {
     rows.iter()
         .map(|rank| longest_section(ceilings, priority, &rank.row))
@@ -63,7 +65,9 @@ fn longest_of_all(ceilings: &[Option<u32>; LOCKS], priority: u32, rows: &[Rank])
 // suspension.
 pub(crate) fn blocking_of(ceilings: &[Option<u32>; LOCKS], row: &Row, lower: &[Rank]) -> u64
     ensures bound { result + 2 ^ 32 ≤ 2 ^ 64 }
-    ensures value { result ≡ (row.now.suspensions + 1) * longest (λ lock. get_or ceilings.now lock None) row.now.priority (ranked_rows lower.now) }
+    ensures value { result
+        ≡ (row.now.suspensions + 1)
+        * longest_in (ceiling_at ceilings.now) row.now.priority (ranked_rows lower.now) }
 {
     let longest = longest_of_all(ceilings, row.priority, lower);
     (u64::from(row.suspensions) + 1) * u64::from(longest)

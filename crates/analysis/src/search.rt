@@ -9,14 +9,14 @@ use demand::Kind;
 
 // The least window from 1 to the deadline that covers under some vector, with the smallest vector that covers at it.
 // Where no vector covers at a window, the next one to try is the least that is needed by it under any vector: what is
-// needed never falls as the window grows, so no window between the two covers. Window and vector go on as a pair, up to `bound`
-// of a table: one of the forms in docs/DECISIONS.md.
+// needed never falls as the window grows, so no window between the two covers.
 pub(crate) fn search<K: Kind>(
     higher: &HigherRows<'_, K>,
     alone: u64,
     deadline: u32,
 ) -> Option<(u32, u32)>
-    ensures { Searched (need_with K.demand higher.now.items alone) deadline (2 ^ length higher.now.items) result }
+    ensures { let vectors = 2 ^ length higher.now.items in
+        Searched (need_with K.demand higher.now.items alone) deadline vectors result }
 {
     let vectors = 1u32 << higher.len();
     let mut window = 1u64;

@@ -5,7 +5,7 @@ use Rattle.std.proofs.lemmas.Iterator.{YieldsList-from_slice, YieldsList-from_ma
 use Rattle.std.proofs.lemmas.Iterator.Adapters.{option_map_id}
 use Rattle.std.proofs.lemmas.Iterator.Consumers.{max_from_yields_List}
 use Rattle.analysis.specs.declared.Rank.{Rank}
-use Rattle.analysis.specs.Locks.{longest_of}
+use Rattle.analysis.specs.Locks.{longest_in_row}
 use Rattle.analysis.proofs.Greatest.{longest_is}
 use Rattle.analysis.proofs.locks.longest_of_all.Goals as goal
 
@@ -16,6 +16,6 @@ returns c =
     ∙ ap (λ (o : Option ℕ). unwrap_or o 0)
     (sym (option_map_id _)
     ∙ max_from_yields_List _ _ c.max.ensures.ran
-    (YieldsList-from_map _ (λ (r : Rank). longest_of ceilings c.args.priority r.row 8) (YieldsList-from_slice c.args.rows.now cc) c.map.ensures.closure
+    (YieldsList-from_map _ (λ (r : Rank). longest_in_row ceilings c.args.priority r.row 8) (YieldsList-from_slice c.args.rows.now cc) c.map.ensures.closure
     (λ x r q k. search (rules, tests))))
     ∙ longest_is ceilings c.args.priority c.args.rows.now
