@@ -14,7 +14,7 @@ use Rattle.table.specs.declared.hold.Hold.{Hold}
 use Rattle.table.specs.declared.state.State.{State}
 use Rattle.table.specs.declared.state.State.TheVariants.{Free, Held, Kept}
 use Rattle.table.specs.declared.Table.{Table}
-use Rattle.table.specs.Account.{Account, Bears, number_of, hold_checks, unspent, spent, without, AllInTime, with_row, with_kept, with_released, with_withdrawn}
+use Rattle.table.specs.Account.{Account, Bears, number_of, hold_checks, has_unspent, without_hold, without_row, AllInTime, with_row, with_kept, with_released, with_withdrawn}
 use Rattle.table.specs.Agreement.{NoneNamed, Sound, StandsAt, Agrees, AgreesWith}
 use Rattle.table.specs.Memory.{PutAt}
 use Rattle.table.specs.Places.{Uses, At}
@@ -24,18 +24,18 @@ use Rattle.table.proofs.Parts.{others_stay}
 use Rattle.table.proofs.Shared.{reordered_refl, reordered_back, named_reordered, numbers_reordered, passed, none_named_at, stands_still}
 use Rattle.table.proofs.Spending.{stands, held_at, kept_at, is_spent, still_ours, spent_gone}
 
-pub without_none : (n : ℕ) (cs : List Claim) → NoneNamed n cs → without n cs ≡ cs
+pub without_none : (n : ℕ) (cs : List Claim) → NoneNamed n cs → without_row n cs ≡ cs
 without_none n [] h = refl
 without_none n (c ∷ cs) h = grind (arith, nat_tests, without_none n cs h.1)
 
-without_reordered : (n : ℕ) {xs ys : List Claim} → Reordered xs ys → Reordered (without n xs) (without n ys)
+without_reordered : (n : ℕ) {xs ys : List Claim} → Reordered xs ys → Reordered (without_row n xs) (without_row n ys)
 without_reordered n same = same
 without_reordered n (next {a = a} {xs = xs} {ys = ys} r) = go (eqb (number_of a) n) (without_reordered n r)
   where
-    go : (b : Bool) → Reordered (without n xs) (without n ys) → Reordered (cond b (without n xs) (a ∷ without n xs)) (cond b (without n ys) (a ∷ without n ys))
+    go : (b : Bool) → Reordered (without_row n xs) (without_row n ys) → Reordered (cond b (without_row n xs) (a ∷ without_row n xs)) (cond b (without_row n ys) (a ∷ without_row n ys))
     go true q = q
     go false q = next q
-without_reordered n (swapped {a = a} {b = b} {xs = xs}) = go (eqb (number_of a) n) (eqb (number_of b) n) (without n xs)
+without_reordered n (swapped {a = a} {b = b} {xs = xs}) = go (eqb (number_of a) n) (eqb (number_of b) n) (without_row n xs)
   where
     go : (s t : Bool) (zs : List Claim) → Reordered (cond s (cond t zs (b ∷ zs)) (a ∷ cond t zs (b ∷ zs))) (cond t (cond s zs (a ∷ zs)) (b ∷ cond s zs (a ∷ zs)))
     go true true zs = reordered_refl zs
@@ -44,10 +44,10 @@ without_reordered n (swapped {a = a} {b = b} {xs = xs}) = go (eqb (number_of a) 
     go false false zs = swapped
 without_reordered n (through r q) = through (without_reordered n r) (without_reordered n q)
 
-unspent_new : (table n : ℕ) (hs : List Bears) → unspent table n (record { table = table; row = n } ∷ hs) ≡ true
+unspent_new : (table n : ℕ) (hs : List Bears) → has_unspent table n (record { table = table; row = n } ∷ hs) ≡ true
 unspent_new table n hs = grind (arith, nat_tests)
 
-unspent_more : (table m n : ℕ) → m ≢ n → (hs : List Bears) → unspent table m (record { table = table; row = n } ∷ hs) ≡ unspent table m hs
+unspent_more : (table m n : ℕ) → m ≢ n → (hs : List Bears) → has_unspent table m (record { table = table; row = n } ∷ hs) ≡ has_unspent table m hs
 unspent_more table m n ne hs = grind (arith, nat_tests)
 
 module _ {K : Type 0} (demand : K → Demand) where
@@ -68,7 +68,7 @@ module _ {K : Type 0} {demand : K → Demand} {a : Account} (t : Table K) (agree
   rest = claims_of demand (set (tasks t) p None)
 
   -- the place is written, where no other has a row of the number n
-  written : (b : Account) (n : ℕ) → b.number ≡ a.number → b.room ≡ a.room → ((m : ℕ) → m ≢ n → unspent b.number m b.holds ≡ unspent a.number m a.holds) → NoneNamed n rest → (s : State) (o : Option (Task K)) → StandsAt b s o → Reordered (claims_of demand (set (tasks t) p o)) b.rows → Sound b → Agrees demand b t.number (set t.states p s) (set t.places.now p o)
+  written : (b : Account) (n : ℕ) → b.number ≡ a.number → b.room ≡ a.room → ((m : ℕ) → m ≢ n → has_unspent b.number m b.holds ≡ has_unspent a.number m a.holds) → NoneNamed n rest → (s : State) (o : Option (Task K)) → StandsAt b s o → Reordered (claims_of demand (set (tasks t) p o)) b.rows → Sound b → Agrees demand b t.number (set t.states p s) (set t.places.now p o)
   written b n number room still apart s o new rows sound = record {
     number_is = number ∙ agrees.number_is;
     states_are = length-set t.states p s ∙ agrees.states_are;
@@ -102,11 +102,11 @@ module _ {K : Type 0} {demand : K → Demand} {a : Account} (t : Table K) (agree
     alone = (numbers_reordered split agrees.sound.numbers).0
 
     -- it goes out, and leaves these holds
-    row_out : (n : ℕ) → n ≡ u.row.number → (hs : List Bears) → ((m : ℕ) → m ≢ n → unspent a.number m hs ≡ unspent a.number m a.holds) → Sound (record { number = a.number; room = a.room; rows = without n a.rows; holds = hs }) → Agrees demand (record { number = a.number; room = a.room; rows = without n a.rows; holds = hs }) t.number (set t.states p Free) (set t.places.now p None)
+    row_out : (n : ℕ) → n ≡ u.row.number → (hs : List Bears) → ((m : ℕ) → m ≢ n → has_unspent a.number m hs ≡ has_unspent a.number m a.holds) → Sound (record { number = a.number; room = a.room; rows = without_row n a.rows; holds = hs }) → Agrees demand (record { number = a.number; room = a.room; rows = without_row n a.rows; holds = hs }) t.number (set t.states p Free) (set t.places.now p None)
     row_out n is hs still sound =
         let apart : NoneNamed n rest = subst (λ m. NoneNamed m rest) (sym is) alone in
-        written (record { number = a.number; room = a.room; rows = without n a.rows; holds = hs }) n refl refl still apart Free None tt
-        (reordered_back (subst (Reordered (without n a.rows)) (let out : without n (claim demand u ∷ rest) ≡ without n rest = grind (arith, nat_tests) in out ∙ without_none n rest apart) (without_reordered n split))) sound
+        written (record { number = a.number; room = a.room; rows = without_row n a.rows; holds = hs }) n refl refl still apart Free None tt
+        (reordered_back (subst (Reordered (without_row n a.rows)) (let out : without_row n (claim demand u ∷ rest) ≡ without_row n rest = grind (arith, nat_tests) in out ∙ without_none n rest apart) (without_reordered n split))) sound
 
 -- a table after a place was written, by what was written
 put_agrees : {K : Type 0} {demand : K → Demand} {b : Account} {t u : Table K} {p : ℕ} {s : State} {o : Option (Task K)} → PutAt t u p s o → Agrees demand b t.number (set t.states p s) (set t.places.now p o) → AgreesWith demand b u
@@ -139,7 +139,7 @@ module _ {K : Type 0} {demand : K → Demand} {a : Account} (t : Table K) (agree
       subst (Agrees demand (with_kept a h) t.number (set t.states p (Kept h.row))) same_places
       (written t agrees p used (with_kept a h) h.row refl refl (λ m ne. others_stay h.table h.row a.number m a.holds ne)
       (subst (λ m. NoneNamed m (rest t agrees p used)) (sym it.number) (alone t agrees p used it.task it.stands)) (Kept h.row) (Some it.task)
-      (it.number, subst (λ m. unspent m h.row (spent h.table h.row a.holds) ≡ false) table (spent_gone h.table h.row a.holds))
+      (it.number, subst (λ m. has_unspent m h.row (without_hold h.table h.row a.holds) ≡ false) table (spent_gone h.table h.row a.holds))
       (subst (λ xs. Reordered (claims_of demand xs) a.rows) (sym (there t agrees p used it.task it.stands)) agrees.rows_are) (with_kept_sound a agrees.sound h))
 
   -- the hold of a row that is held here is spent, and the row goes out
@@ -148,7 +148,7 @@ module _ {K : Type 0} {demand : K → Demand} {a : Account} (t : Table K) (agree
       let it = held_at t agrees h.row p at in
       let used : Uses t p = (at.0, within t p it.task it.stands) in
       put_agrees put
-      (row_out t agrees p used it.task it.stands h.row it.number (spent h.table h.row a.holds) (λ m ne. others_stay h.table h.row a.number m a.holds ne)
+      (row_out t agrees p used it.task it.stands h.row it.number (without_hold h.table h.row a.holds) (λ m ne. others_stay h.table h.row a.number m a.holds ne)
       (released_sound a agrees.sound h.table h.row (still_ours t agrees h p (ours, (used, at.1)))))
 
   -- a kept row goes out

@@ -22,7 +22,7 @@ use Rattle.table.specs.declared.refusals.HoldRefusal.{HoldRefusal}
 use Rattle.table.specs.declared.state.State.{State}
 use Rattle.table.specs.declared.state.State.TheVariants.{Free, Held, Kept}
 use Rattle.table.specs.declared.Table.{Table}
-use Rattle.table.specs.Account.{Account, Bears, BoundOf, BoundsAnswered, bears, fresh, has_number, number_of, unspent}
+use Rattle.table.specs.Account.{Account, Bears, BoundOf, BoundsAnswered, bears, fresh_account, has_number, number_of, has_unspent}
 use Rattle.table.specs.Agreement.{AgreesWith, DistinctNumbers, Sound, StandsAt}
 use Rattle.table.specs.History.{History, HasHistory, HasSomeHistory, Continues, EveryHistory, HasRank, JustBound, Promise, RowAt, StandsHeld, account_of, fresh_of, rows_at}
 use Rattle.table.specs.Runs.{Event, holding, bounding, LateWithoutPlan, Run, Stands, Step, Unspent, after, after_all}
@@ -42,7 +42,7 @@ continues demand t u e turns es known = ∥∥₁_map known (λ k.
     let is : p.0 ≡ after a e = step_after a p.0 e p.1 in
     let number : t.number ≡ u.number = sym k.agrees.number_is ∙ sym (same_number a e).0 ∙ sym (ap (λ (b : Account). b.number) is) ∙ p.2.number_is in
     let room : min (length t.places.now) 12 ≡ min (length u.places.now) 12 = sym k.agrees.room_is ∙ sym (same_number a e).1 ∙ sym (ap (λ (b : Account). b.room) is) ∙ p.2.room_is in
-    let start : fresh_of t ≡ fresh_of u = ap₂ fresh number room in
+    let start : fresh_of t ≡ fresh_of u = ap₂ fresh_account number room in
     record {
       answered = subst (λ s. Run s (e ∷ es)) start (k.answered, subst (λ b. Step a e b) is p.1);
       agrees = subst (λ s. AgreesWith demand (after_all s (e ∷ es)) u) start (subst (λ b. AgreesWith demand b u) is p.2);
@@ -57,11 +57,11 @@ pub asked : {K : Type 0} (demand : K → Demand) (t : Table K) (n : ℕ) (r : Re
 asked demand t n r answered = continues demand t t (bounding n r) (λ a agrees. (a, (answered a agrees, refl), agrees))
 
 -- a table that was just made
-pub fresh_history : {K : Type 0} (demand : K → Demand) (t : Table K) (n : ℕ) → length t.places.now ≡ n → AgreesWith demand (fresh t.number (min n 12)) t → HasHistory demand [] t
-fresh_history demand t n count agrees = ∣ record { answered = tt; agrees = subst (λ m. AgreesWith demand (fresh t.number (min m 12)) t) (sym count) agrees } ∣₁
+pub fresh_history : {K : Type 0} (demand : K → Demand) (t : Table K) (n : ℕ) → length t.places.now ≡ n → AgreesWith demand (fresh_account t.number (min n 12)) t → HasHistory demand [] t
+fresh_history demand t n count agrees = ∣ record { answered = tt; agrees = subst (λ m. AgreesWith demand (fresh_account t.number (min m 12)) t) (sym count) agrees } ∣₁
 
 -- an unspent hold is among the holds, and one that is among them is unspent
-unspent_among : (table n : ℕ) (hs : List Bears) → unspent table n hs ≡ true → Among (record { table = table; row = n }) hs
+unspent_among : (table n : ℕ) (hs : List Bears) → has_unspent table n hs ≡ true → Among (record { table = table; row = n }) hs
 unspent_among table n [] e = cc
 unspent_among table n (h ∷ hs) e = elim (cases_Bool (bears table n h)) [
   | inl here ↦
@@ -73,10 +73,10 @@ unspent_among table n (h ∷ hs) e = elim (cases_Bool (bears table n h)) [
     bears_of : ℕ → ℕ → Bears
     bears_of t r = record { table = t; row = r }
 
-among_unspent : (table n : ℕ) (hs : List Bears) → Among (record { table = table; row = n }) hs → unspent table n hs ≡ true
+among_unspent : (table n : ℕ) (hs : List Bears) → Among (record { table = table; row = n }) hs → has_unspent table n hs ≡ true
 among_unspent table n [] m = absurd m
 among_unspent table n (h ∷ hs) (inl e) = rw e (grind (arith, nat_tests))
-among_unspent table n (h ∷ hs) (inr m) = or_right (bears table n h) (unspent table n hs) (among_unspent table n hs m)
+among_unspent table n (h ∷ hs) (inr m) = or_right (bears table n h) (has_unspent table n hs) (among_unspent table n hs m)
 
 module _ {K : Type 0} (demand : K → Demand) where
   abbrev claim : Task K → Claim
@@ -137,9 +137,9 @@ module _ {K : Type 0} (a : Account) (u : Task K) where
   held_or_kept (Held n) s = inl (ap Held s.0)
   held_or_kept (Kept n) s = inr (ap Kept s.0)
 
-  held_unspent_there : (n : ℕ) (s : State) → s ≡ Held n → StandsAt a s (Some u) → unspent a.number n a.holds ≡ true
+  held_unspent_there : (n : ℕ) (s : State) → s ≡ Held n → StandsAt a s (Some u) → has_unspent a.number n a.holds ≡ true
   held_unspent_there n Free e s = absurd s
-  held_unspent_there n (Held m) e s = let same : m ≡ n = cc in subst (λ k. unspent a.number k a.holds ≡ true) same s.1
+  held_unspent_there n (Held m) e s = let same : m ≡ n = cc in subst (λ k. has_unspent a.number k a.holds ≡ true) same s.1
   held_unspent_there n (Kept m) e s = cc
 
 module _ {K : Type 0} (demand : K → Demand) (es : List Event) (t : Table K) (h : History demand es t) where

@@ -1,7 +1,7 @@
 -- The rows and holds of an account are those that the run says. Assumes nothing.
 use Rattle.std.proofs.Common.{ℕ, List, [], ◌∷◌, Ok, Err, sym, arith}
 use Rattle.analysis.specs.Ranks.{Claim}
-use Rattle.table.specs.Account.{Account, Bears, fresh, unspent}
+use Rattle.table.specs.Account.{Account, Bears, fresh_account, has_unspent}
 use Rattle.table.specs.Agreement.{Sound}
 use Rattle.table.specs.Runs.{Event, holding, keeping, releasing, withdrawing, bounding, Step, after_all, Run, Stands, Unspent}
 use Rattle.table.proofs.Checks.{is_unspent}
@@ -23,10 +23,10 @@ standing_step c a b es (withdrawing n (Ok u)) step s = rw step.1 (grind (arith, 
 standing_step c a b es (withdrawing n (Err e)) step s = rw step.1 (grind (arith, s.0, s.1))
 standing_step c a b es (bounding n r) step s = rw step.1 (grind (arith, s.0, s.1))
 
-pub standing : (number room : ℕ) (c : Claim) (es : List Event) → Run (fresh number room) es → Standing c (after_all (fresh number room) es).rows es
+pub standing : (number room : ℕ) (c : Claim) (es : List Event) → Run (fresh_account number room) es → Standing c (after_all (fresh_account number room) es).rows es
 standing number room c [] run = (λ x. x, λ x. x)
 standing number room c (e ∷ es) run =
-    standing_step c (after_all (fresh number room) es) (after_all (fresh number room) (e ∷ es)) es e run.1 (standing number room c es run.0)
+    standing_step c (after_all (fresh_account number room) es) (after_all (fresh_account number room) (e ∷ es)) es e run.1 (standing number room c es run.0)
 
 -- the hold on the row n that the table's number goes with
 abbrev pub it : Account → ℕ → Bears
@@ -39,15 +39,15 @@ HeldNow n a es = (Among (it a n) a.holds → Unspent n es) × (Unspent n es → 
 held_step : (n : ℕ) (a b : Account) (es : List Event) (e : Event) → Sound a → Step a e b → HeldNow n a es → HeldNow n b (e ∷ es)
 held_step n a b es (holding d (Ok h)) s step p = rw step.1.1 (grind (arith, p.0, p.1))
 held_step n a b es (holding d (Err e)) s step p = rw step.1.1 (grind (arith, p.0, p.1))
-held_step n a b es (keeping h (Ok u)) s step p = rw step.1 (let own = unspent_own a.number a.rows h.table h.row a.holds s.holds (is_unspent (unspent h.table h.row a.holds) step.0) in grind (arith, was_unspent (it a n) h.table h.row a.holds (sym own), stays_unspent (it a n) h.table h.row a.holds, p.0, p.1))
+held_step n a b es (keeping h (Ok u)) s step p = rw step.1 (let own = unspent_own a.number a.rows h.table h.row a.holds s.holds (is_unspent (has_unspent h.table h.row a.holds) step.0) in grind (arith, was_unspent (it a n) h.table h.row a.holds (sym own), stays_unspent (it a n) h.table h.row a.holds, p.0, p.1))
 held_step n a b es (keeping h (Err e)) s step p = rw step.2 (grind (arith, p.0, p.1))
-held_step n a b es (releasing h (Ok u)) s step p = rw step.1 (let own = unspent_own a.number a.rows h.table h.row a.holds s.holds (is_unspent (unspent h.table h.row a.holds) step.0) in grind (arith, was_unspent (it a n) h.table h.row a.holds (sym own), stays_unspent (it a n) h.table h.row a.holds, p.0, p.1))
+held_step n a b es (releasing h (Ok u)) s step p = rw step.1 (let own = unspent_own a.number a.rows h.table h.row a.holds s.holds (is_unspent (has_unspent h.table h.row a.holds) step.0) in grind (arith, was_unspent (it a n) h.table h.row a.holds (sym own), stays_unspent (it a n) h.table h.row a.holds, p.0, p.1))
 held_step n a b es (releasing h (Err e)) s step p = rw step.2 (grind (arith, p.0, p.1))
 held_step n a b es (withdrawing m (Ok u)) s step p = rw step.1 (grind (arith, p.0, p.1))
 held_step n a b es (withdrawing m (Err e)) s step p = rw step.1 (grind (arith, p.0, p.1))
 held_step n a b es (bounding m r) s step p = rw step.1 (grind (arith, p.0, p.1))
 
-pub held_unspent : (number room n : ℕ) (es : List Event) → Run (fresh number room) es → HeldNow n (after_all (fresh number room) es) es
+pub held_unspent : (number room n : ℕ) (es : List Event) → Run (fresh_account number room) es → HeldNow n (after_all (fresh_account number room) es) es
 held_unspent number room n [] run = (λ x. x, λ x. x)
 held_unspent number room n (e ∷ es) run =
-    held_step n (after_all (fresh number room) es) (after_all (fresh number room) (e ∷ es)) es e (sound number room es run.0) run.1 (held_unspent number room n es run.0)
+    held_step n (after_all (fresh_account number room) es) (after_all (fresh_account number room) (e ∷ es)) es e (sound number room es run.0) run.1 (held_unspent number room n es run.0)

@@ -16,7 +16,7 @@ use Rattle.analysis.proofs.Order.{highest_first, lawful_reordered, reordered_app
 use Rattle.analysis.proofs.Ranked.{length_ranked}
 use Rattle.table.specs.declared.refusals.HoldRefusal.{HoldRefusal}
 use Rattle.table.specs.declared.state.State.{State}
-use Rattle.table.specs.Account.{Account, number_of, has_number, has_priority, no_byte, hold_checks, hold_number, unspent, AllInTime}
+use Rattle.table.specs.Account.{Account, number_of, has_number, has_priority, is_no_number, is_no_priority, hold_checks, hold_number, has_unspent, AllInTime}
 use Rattle.table.specs.Agreement.{NoneNamed, DistinctNumbers, LawfulRows, StandsAt}
 use Rattle.table.proofs.Parts.{all_lawful, none_named, none_at}
 
@@ -98,12 +98,12 @@ pub passed : (a : Account) (c : Claim) → first (hold_checks a c) ≡ 0 → Pas
 passed a c e =
     let none_of = none_applies 5 10 (hold_checks a c) (omega arith) ((omega arith, omega arith), ((omega arith, omega arith), ((omega arith, omega arith), ((omega arith, omega arith), ((omega arith, omega arith), ((omega arith, omega arith), tt)))))) e in
     record {
-      number = none_named (number_of c) a.rows (or_parts (no_byte (number_of c)) (has_number (number_of c) a.rows) none_of.0).1;
-      priority = none_at c.row.priority a.rows (or_parts (no_byte c.row.priority) (has_priority c.row.priority a.rows) none_of.1.0).1;
+      number = none_named (number_of c) a.rows (or_parts (is_no_number (number_of c)) (has_number (number_of c) a.rows) none_of.0).1;
+      priority = none_at c.row.priority a.rows (or_parts (is_no_priority c.row.priority) (has_priority c.row.priority a.rows) none_of.1.0).1;
       room = leb-false a.room (length a.rows) none_of.1.1.1.1.1.0;
       byte =
           ltb-false 255 (number_of c)
-          (or_parts (eqb (number_of c) 0) (ltb 255 (number_of c)) (or_parts (no_byte (number_of c)) (has_number (number_of c) a.rows) none_of.0).0).1;
+          (or_parts (eqb (number_of c) 0) (ltb 255 (number_of c)) (or_parts (is_no_number (number_of c)) (has_number (number_of c) a.rows) none_of.0).0).1;
       deadline =
           ltb-false c.demand.spacing c.row.deadline
           (or_parts (eqb c.row.deadline 0) (ltb c.demand.spacing c.row.deadline) none_of.1.1.1.0).1;
@@ -138,5 +138,5 @@ none_named_at demand n (o ∷ os) (suc p) u h e = grind (arith, none_named_at de
 
 module _ {K : Type 0} (a : Account) where
   -- a row of another number stands as it stood
-  pub stands_still : (b : Account) (n : ℕ) → ((m : ℕ) → m ≢ n → unspent b.number m b.holds ≡ unspent a.number m a.holds) → (s : State) (o : Option (Task K)) → ((t : Task K) → o ≡ Some t → t.row.number ≢ n) → StandsAt a s o → StandsAt b s o
+  pub stands_still : (b : Account) (n : ℕ) → ((m : ℕ) → m ≢ n → has_unspent b.number m b.holds ≡ has_unspent a.number m a.holds) → (s : State) (o : Option (Task K)) → ((t : Task K) → o ≡ Some t → t.row.number ≢ n) → StandsAt a s o → StandsAt b s o
   stands_still b n still s o other h = grind arith

@@ -1,7 +1,8 @@
 // Looking for a place, a row, an answer.
 ghost use Rattle.std.specs.Prelude.{◌≡◌, true, length, take};
-ghost use Rattle.table.specs.Account.{Account, any_above, has_number, has_priority};
-ghost use Rattle.table.specs.Agreement.{AgreesWith};
+ghost use Rattle.analysis.specs.declared.TheConstants.{MOST_ROWS};
+ghost use Rattle.table.specs.Account.{any_above, has_number, has_priority};
+ghost use Rattle.table.specs.Agreement.{MatchesAccount};
 ghost use Rattle.table.specs.Places.{names, answer_of, PlaceWhere};
 
 use super::{MOST_ROWS, State, Table};
@@ -26,9 +27,9 @@ pub(crate) fn find_answer(answers: &[Answer], number: u32) -> Option<(u32, u32)>
 }
 
 impl<'a, K: Kind + Drop> Table<'a, K> {
-    // The places that the table uses: the first twelve at most.
+    // The places that the table uses: the first `MOST_ROWS` at most.
     pub(crate) fn used(&self) -> &[Option<Task<K>>]
-        ensures { result.now ≡ take 12 self.now.places.now }
+        ensures { result.now ≡ take MOST_ROWS self.now.places.now }
     {
         &self.places[..self.places.len().min(MOST_ROWS)]
     }
@@ -58,14 +59,15 @@ impl<'a, K: Kind + Drop> Table<'a, K> {
 
     // Whether a row has this number.
     pub(crate) fn has_number(&self, number: u32) -> bool
-        ensures { (a : Account) → AgreesWith K.demand a self.now → result ≡ has_number number a.rows }
+        ensures { MatchesAccount K.demand (λ a. result ≡ has_number number a.rows) self.now }
     {
         self.place_of(number).is_some()
     }
 
     // Whether a row has this priority.
     pub(crate) fn has_priority(&self, priority: u32) -> bool
-        ensures { (a : Account) → AgreesWith K.demand a self.now → result ≡ has_priority priority a.rows }
+        ensures { MatchesAccount K.demand
+            (λ a. result ≡ has_priority priority a.rows) self.now }
     {
         self.used()
             .iter()

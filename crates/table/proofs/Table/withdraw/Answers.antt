@@ -2,7 +2,7 @@ use Rattle.std.proofs.Common.{◌≡◌, true, is_some, None, Ok, Err, sym, refl
 use Rattle.std.proofs.lemmas.Result.{err_from_is_err_and}
 use Rattle.table.specs.declared.refusals.WithdrawRefusal.TheVariants.{NoSuchRow, NotKept}
 use Rattle.table.specs.declared.state.State.TheVariants.{Held, Kept}
-use Rattle.table.specs.Account.{has_number, held as is_held_by, with_withdrawn}
+use Rattle.table.specs.Account.{has_number, has_hold_on as is_held_by, with_withdrawn}
 use Rattle.table.specs.Places.{names}
 use Rattle.table.proofs.Changes.{row_withdrawn}
 use Rattle.table.proofs.Checks.{held_applies, no_row_applies, withdraw_passes}
