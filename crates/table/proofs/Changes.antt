@@ -1,5 +1,5 @@
 -- The table and the account after a call that writes a place. Assumes nothing.
-use Rattle.std.proofs.Common.{◌≡◌, ℕ, zero, suc, ◌<◌, min, Bool, true, false, cond, eqb, ◌≢◌, List, [], ◌∷◌, length, get_or, take, set, Some, None, Option, sym, refl, ap, ◌∙◌, subst, subst₂, not-suc-le-zero, arith}
+use Rattle.std.proofs.Common.{◌≡◌, ℕ, zero, suc, ◌<◌, min, true, false, not, eqb, ◌≢◌, List, [], ◌∷◌, length, get_or, take, set, Some, None, Option, sym, refl, ap, ◌∙◌, subst, subst₂, not-suc-le-zero, arith}
 use mathlib.Core.Path.{subst₃}
 use native.Mathlib.Decide.{ℕ_discrete}
 use lib.Seq.{take-set-lt}
@@ -9,7 +9,7 @@ use Rattle.demand.specs.Demand.{Demand, Lawful}
 use Rattle.demand.specs.Refusals.{first}
 use Rattle.analysis.specs.declared.Task.{Task}
 use Rattle.analysis.specs.Candidates.{claims_of}
-use Rattle.analysis.specs.Ranks.{Claim, Reordered, same, next, swapped, through}
+use Rattle.analysis.specs.Ranks.{Claim, Reordered, next, swapped, through}
 use Rattle.table.specs.declared.hold.Hold.{Hold}
 use Rattle.table.specs.declared.state.State.{State}
 use Rattle.table.specs.declared.state.State.TheVariants.{Free, Held, Kept}
@@ -21,28 +21,12 @@ use Rattle.table.specs.Places.{Uses, At}
 use Rattle.table.proofs.Kept.{with_row_sound, with_kept_sound, released_sound, with_withdrawn_sound}
 use Rattle.table.proofs.Lookups.{tasks, task_at, state_at, AtLow, within}
 use Rattle.table.proofs.Parts.{others_stay}
-use Rattle.table.proofs.Shared.{reordered_refl, reordered_back, named_reordered, numbers_reordered, passed, none_named_at, stands_still}
+use Rattle.table.proofs.Shared.{reordered_refl, filter_reordered, reordered_back, named_reordered, numbers_reordered, passed, none_named_at, stands_still}
 use Rattle.table.proofs.Spending.{stands, held_at, kept_at, is_spent, still_ours, spent_gone}
 
 pub without_none : (n : ℕ) (cs : List Claim) → NoneNamed n cs → without_row n cs ≡ cs
 without_none n [] h = refl
 without_none n (c ∷ cs) h = grind (arith, nat_tests, without_none n cs h.1)
-
-without_reordered : (n : ℕ) {xs ys : List Claim} → Reordered xs ys → Reordered (without_row n xs) (without_row n ys)
-without_reordered n same = same
-without_reordered n (next {a = a} {xs = xs} {ys = ys} r) = go (eqb (number_of a) n) (without_reordered n r)
-  where
-    go : (b : Bool) → Reordered (without_row n xs) (without_row n ys) → Reordered (cond b (without_row n xs) (a ∷ without_row n xs)) (cond b (without_row n ys) (a ∷ without_row n ys))
-    go true q = q
-    go false q = next q
-without_reordered n (swapped {a = a} {b = b} {xs = xs}) = go (eqb (number_of a) n) (eqb (number_of b) n) (without_row n xs)
-  where
-    go : (s t : Bool) (zs : List Claim) → Reordered (cond s (cond t zs (b ∷ zs)) (a ∷ cond t zs (b ∷ zs))) (cond t (cond s zs (a ∷ zs)) (b ∷ cond s zs (a ∷ zs)))
-    go true true zs = reordered_refl zs
-    go true false zs = reordered_refl (b ∷ zs)
-    go false true zs = reordered_refl (a ∷ zs)
-    go false false zs = swapped
-without_reordered n (through r q) = through (without_reordered n r) (without_reordered n q)
 
 unspent_new : (table n : ℕ) (hs : List Bears) → has_unspent table n (record { table = table; row = n } ∷ hs) ≡ true
 unspent_new table n hs = grind (arith, nat_tests)
@@ -106,7 +90,7 @@ module _ {K : Type 0} {demand : K → Demand} {a : Account} (t : Table K) (agree
     row_out n is hs still sound =
         let apart : NoneNamed n rest = subst (λ m. NoneNamed m rest) (sym is) alone in
         written (record { number = a.number; room = a.room; rows = without_row n a.rows; holds = hs }) n refl refl still apart Free None tt
-        (reordered_back (subst (Reordered (without_row n a.rows)) (let out : without_row n (claim demand u ∷ rest) ≡ without_row n rest = grind (arith, nat_tests) in out ∙ without_none n rest apart) (without_reordered n split))) sound
+        (reordered_back (subst (Reordered (without_row n a.rows)) (let out : without_row n (claim demand u ∷ rest) ≡ without_row n rest = grind (arith, nat_tests) in out ∙ without_none n rest apart) (filter_reordered (λ c. not (eqb (number_of c) n)) split))) sound
 
 -- a table after a place was written, by what was written
 put_agrees : {K : Type 0} {demand : K → Demand} {b : Account} {t u : Table K} {p : ℕ} {s : State} {o : Option (Task K)} → PutAt t u p s o → Agrees demand b t.number (set t.states p s) (set t.places.now p o) → AgreesWith demand b u

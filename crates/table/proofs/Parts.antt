@@ -1,5 +1,5 @@
 -- Rows and holds that are taken out of a list, by their numbers. Assumes nothing.
-use Rattle.std.proofs.Common.{◌≡◌, ℕ, true, false, eqb, ◌≢◌, ◌⊎◌, List, [], ◌∷◌, sym, refl, ap, ◌∙◌, subst, arith}
+use Rattle.std.proofs.Common.{◌≡◌, ℕ, true, false, not, eqb, ◌≢◌, ◌⊎◌, List, [], ◌∷◌, sym, refl, ap, ◌∙◌, subst, arith}
 use Rattle.std.proofs.lemmas.Bool.Decides.{nat_tests}
 use Rattle.std.proofs.lemmas.Bool.{cond_both}
 use Rattle.demand.specs.Demand.{Lawful}
@@ -19,7 +19,7 @@ pub without_some : (n : ℕ) (cs : List Claim) → SomeOf ◌≡◌ (without_row
 without_some n [] = none
 without_some n (c ∷ cs) =
     let rest = without_some n cs in
-    cond_both (eqb (number_of c) n) (without_row n cs) (c ∷ without_row n cs) (λ xs. SomeOf ◌≡◌ xs (c ∷ cs)) (λ _. leave rest) (λ _. keep refl rest)
+    cond_both (not (eqb (number_of c) n)) (c ∷ without_row n cs) (without_row n cs) (λ xs. SomeOf ◌≡◌ xs (c ∷ cs)) (λ _. keep refl rest) (λ _. leave rest)
 
 none_named_kept : (n : ℕ) {xs ys : List Claim} → SomeOf ◌≡◌ xs ys → NoneNamed n ys → NoneNamed n xs
 none_named_kept n none h = tt

@@ -1,7 +1,6 @@
 -- Rows in another order, checks of which none applies, rows that are in time, and places. Assumes nothing.
-use Rattle.std.proofs.Common.{◌≡◌, ℕ, zero, suc, ◌<◌, ◌≤◌, Bool, false, ◌||◌, eqb, ltb, ◌≢◌, List, [], ◌∷◌, length, get_or, Some, None, Option, sym, refl, ap, ◌∙◌, subst, arith}
-use Rattle.std.specs.List.{list_any}
-use Rattle.std.proofs.lemmas.List.Recursion.{same_from_clauses}
+use Rattle.std.proofs.Common.{◌≡◌, ℕ, zero, suc, ◌<◌, ◌≤◌, Bool, true, false, cond, ◌||◌, eqb, ltb, ◌≢◌, List, [], ◌∷◌, length, get_or, Some, None, Option, sym, refl, ap, ◌∙◌, subst, arith}
+use Rattle.std.specs.List.{filter, list_any}
 use Rattle.std.proofs.lemmas.Bool.{leb-false, ltb-false, or_parts}
 use Rattle.demand.specs.Demand.{Demand}
 use Rattle.demand.specs.Refusals.{first}
@@ -45,18 +44,29 @@ any_reordered test (next {a = a} r) = ap (λ b. test a || b) (any_reordered test
 any_reordered test (swapped {a = a} {b = b} {xs = xs}) = or_swap (test a) (test b) (list_any test xs)
 any_reordered test (through r q) = any_reordered test r ∙ any_reordered test q
 
--- a test of each row in turn is `any`
-is_any : (F : List Claim → Bool) (test : Claim → Bool) → F [] ≡ false → ((c : Claim) (cs : List Claim) → F (c ∷ cs) ≡ (test c || F cs)) → {xs ys : List Claim} → Reordered xs ys → F xs ≡ F ys
-is_any F test none more {xs = xs} {ys = ys} r =
-    let same_as : (cs : List Claim) → F cs ≡ list_any test cs = same_from_clauses F (list_any test) (λ c b. test c || b) none more (λ _ _. refl) in
-    same_as xs ∙ any_reordered test r ∙ sym (same_as ys)
+-- those that pass a test are the same in another order
+pub filter_reordered : {A : Type 0} (test : A → Bool) {xs ys : List A} → Reordered xs ys → Reordered (filter test xs) (filter test ys)
+filter_reordered test same = same
+filter_reordered test (next {a = a} {xs = xs} {ys = ys} r) = go (test a) (filter_reordered test r)
+  where
+    go : (b : Bool) → Reordered (filter test xs) (filter test ys) → Reordered (cond b (a ∷ filter test xs) (filter test xs)) (cond b (a ∷ filter test ys) (filter test ys))
+    go true q = next q
+    go false q = q
+filter_reordered {A = A} test (swapped {a = a} {b = b} {xs = xs}) = go (test a) (test b) (filter test xs)
+  where
+    go : (s t : Bool) (zs : List A) → Reordered (cond s (a ∷ cond t (b ∷ zs) zs) (cond t (b ∷ zs) zs)) (cond t (b ∷ cond s (a ∷ zs) zs) (cond s (a ∷ zs) zs))
+    go true true zs = swapped
+    go true false zs = reordered_refl (a ∷ zs)
+    go false true zs = reordered_refl (b ∷ zs)
+    go false false zs = reordered_refl zs
+filter_reordered test (through r q) = through (filter_reordered test r) (filter_reordered test q)
 
 -- the order of the rows does not matter
 pub number_reordered : (n : ℕ) {xs ys : List Claim} → Reordered xs ys → has_number n xs ≡ has_number n ys
-number_reordered n = is_any (has_number n) (λ c. eqb (number_of c) n) refl (λ _ _. refl)
+number_reordered n = any_reordered (λ c. eqb (number_of c) n)
 
 pub priority_reordered : (p : ℕ) {xs ys : List Claim} → Reordered xs ys → has_priority p xs ≡ has_priority p ys
-priority_reordered p = is_any (has_priority p) (λ c. eqb c.row.priority p) refl (λ _ _. refl)
+priority_reordered p = any_reordered (λ c. eqb c.row.priority p)
 
 pub named_reordered : (n : ℕ) {xs ys : List Claim} → Reordered xs ys → NoneNamed n xs → NoneNamed n ys
 named_reordered n same h = h

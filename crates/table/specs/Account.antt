@@ -2,9 +2,10 @@
 -- How to read it: a is the account before a call, b the one after it, c a row with the meaning of its kind, h a hold, n the number of a row. The
 -- calls are `Holds`, `HoldsAnswered`, `Spends` (keep and release), `Withdraws` and `BoundsAnswered`; each says which answers the account allows.
 -- A check is a pair, whether it applies and its number; `first` is the number of the first that applies, and 0 where none does.
-use Rattle.std.specs.Prelude.{◌≡◌, ℕ, ◌<◌, Bool, false, if◌then◌else◌, not, ◌&&◌, ◌||◌, List, [], ◌∷◌, ◌++◌, length, Ok, Err, Result, ◌==◌, nat_le, nat_lt}
+use Rattle.std.specs.Prelude.{◌≡◌, ℕ, ◌<◌, Bool, if◌then◌else◌, not, ◌&&◌, ◌||◌, List, [], ◌∷◌, ◌++◌, length, Ok, Err, Result, ◌==◌, nat_le, nat_lt}
 use Rattle.demand.specs.Refusals.{first}
 use Rattle.std.specs.Bool.{beq}
+use Rattle.std.specs.List.{filter, list_any}
 use Rattle.table.specs.declared.TheConstants.{LARGEST_NUMBER, LARGEST_PRIORITY, LONGEST_SUSPENSION, MOST_SUSPENSIONS}
 use Rattle.analysis.specs.declared.answers.Answers.{Answers}
 use Rattle.analysis.specs.Judge.{Answered, LateRow, answers_of}
@@ -42,18 +43,15 @@ number_of c = c.row.number
 
 -- a row of these has the number n
 abbrev pub has_number : ℕ → List Claim → Bool
-has_number n [] = false
-has_number n (c ∷ cs) = number_of c == n || has_number n cs
+has_number n cs = list_any (λ c. number_of c == n) cs
 
 -- a row of these has the priority p
 abbrev pub has_priority : ℕ → List Claim → Bool
-has_priority p [] = false
-has_priority p (c ∷ cs) = c.row.priority == p || has_priority p cs
+has_priority p cs = list_any (λ c. c.row.priority == p) cs
 
 -- some length is above the limit
 abbrev pub any_above : ℕ → List ℕ → Bool
-any_above limit [] = false
-any_above limit (n ∷ ns) = nat_lt limit n || any_above limit ns
+any_above limit ns = list_any (nat_lt limit) ns
 
 -- no row may have this number
 abbrev pub is_no_number : ℕ → Bool
@@ -175,24 +173,19 @@ bears table row h = h.table == table && h.row == row
 
 -- one of these holds bears the two numbers
 abbrev pub has_unspent : ℕ → ℕ → List Bears → Bool
-has_unspent table row [] = false
-has_unspent table row (h ∷ hs) = bears table row h || has_unspent table row hs
+has_unspent table row hs = list_any (bears table row) hs
 
 -- one of these holds bears the row's number
 abbrev pub has_hold_on : ℕ → List Bears → Bool
-has_hold_on row [] = false
-has_hold_on row (h ∷ hs) = h.row == row || has_hold_on row hs
+has_hold_on row hs = list_any (λ h. h.row == row) hs
 
 -- the holds but those that bear the two numbers
 abbrev pub without_hold : ℕ → ℕ → List Bears → List Bears
-without_hold table row [] = []
-without_hold table row (h ∷ hs) =
-    if bears table row h then without_hold table row hs else h ∷ without_hold table row hs
+without_hold table row hs = filter (λ h. not (bears table row h)) hs
 
 -- the rows but that with the number n
 abbrev pub without_row : ℕ → List Claim → List Claim
-without_row n [] = []
-without_row n (c ∷ cs) = if number_of c == n then without_row n cs else c ∷ without_row n cs
+without_row n cs = filter (λ c. not (number_of c == n)) cs
 
 -- the hold is spent, and its row stays
 abbrev pub with_kept : Account → Hold → Account

@@ -1,7 +1,8 @@
 -- What stands at a place, and at which places a table looks. Assumes nothing.
 -- How to read it: t is a table, p a place, and P something that is said of the state at a place.
-use Rattle.std.specs.Prelude.{◌≡◌, ℕ, ◌<◌, Bool, false, if◌then◌else◌, List, [], ◌∷◌, length, Some, None, Option, MatchOption, ◌==◌, slice_index_or}
-use Rattle.std.specs.List.{list_any}
+use Rattle.std.specs.Prelude.{◌≡◌, ℕ, ◌<◌, Bool, false, List, length, Option, MatchOption, ◌==◌, slice_index_or}
+use Rattle.std.specs.List.{find, list_any}
+use Rattle.std.specs.Option.{option_map}
 use Rattle.analysis.specs.declared.TheConstants.{MOST_ROWS}
 use Rattle.analysis.specs.declared.Answer.{Answer}
 use Rattle.table.specs.declared.hold.Hold.{Hold}
@@ -23,8 +24,7 @@ is_held n (Kept m) = false
 
 -- bound and vector of the first answer for the row with the number n
 abbrev pub answer_of : ℕ → List Answer → Option (ℕ × ℕ)
-answer_of n [] = None
-answer_of n (a ∷ rest) = if a.number == n then Some (a.bound, a.vector) else answer_of n rest
+answer_of n answers = option_map (λ a. (a.bound, a.vector)) (find (λ a. a.number == n) answers)
 
 module _ {K : Type 0} (t : Table K) where
   -- the table uses the place: it is one of the first `MOST_ROWS`, and within the row memory
