@@ -14,19 +14,19 @@ use Rattle.table.specs.declared.hold.Hold.{Hold}
 use Rattle.table.specs.declared.state.State.{State}
 use Rattle.table.specs.declared.state.State.TheVariants.{Free, Held, Kept}
 use Rattle.table.specs.declared.Table.{Table}
-use Rattle.table.specs.Account.{Account, Bears, number_of, hold_checks, has_unspent, without_hold, without_row, AllInTime, with_row, with_kept, with_released, with_withdrawn}
-use Rattle.table.specs.Agreement.{NoneNamed, Sound, StandsAt, Agrees, AgreesWith}
+use Rattle.table.specs.Account.{Account, Bears, has_number, number_of, hold_checks, has_unspent, without_hold, without_row, AllInTime, with_row, with_kept, with_released, with_withdrawn}
+use Rattle.table.specs.Agreement.{Sound, StandsAt, Agrees, AgreesWith}
 use Rattle.table.specs.Memory.{PutAt}
 use Rattle.table.specs.Places.{Uses, At}
 use Rattle.table.proofs.Kept.{with_row_sound, with_kept_sound, released_sound, with_withdrawn_sound}
 use Rattle.table.proofs.Lookups.{tasks, task_at, state_at, AtLow, within}
-use Rattle.table.proofs.Parts.{others_stay}
-use Rattle.table.proofs.Shared.{reordered_refl, filter_reordered, reordered_back, named_reordered, numbers_reordered, passed, none_named_at, stands_still}
+use Rattle.table.proofs.Parts.{no_number, others_stay, pairs_head}
+use Rattle.table.proofs.Shared.{reordered_refl, filter_reordered, reordered_back, number_reordered, numbers_reordered, passed, none_named_at, stands_still}
 use Rattle.table.proofs.Spending.{stands, held_at, kept_at, is_spent, still_ours, spent_gone}
 
-pub without_none : (n : ℕ) (cs : List Claim) → NoneNamed n cs → without_row n cs ≡ cs
+pub without_none : (n : ℕ) (cs : List Claim) → has_number n cs ≡ false → without_row n cs ≡ cs
 without_none n [] h = refl
-without_none n (c ∷ cs) h = grind (arith, nat_tests, without_none n cs h.1)
+without_none n (c ∷ cs) h = grind (arith, nat_tests, without_none n cs)
 
 unspent_new : (table n : ℕ) (hs : List Bears) → has_unspent table n (record { table = table; row = n } ∷ hs) ≡ true
 unspent_new table n hs = grind (arith, nat_tests)
@@ -52,7 +52,7 @@ module _ {K : Type 0} {demand : K → Demand} {a : Account} (t : Table K) (agree
   rest = claims_of demand (set (tasks t) p None)
 
   -- the place is written, where no other has a row of the number n
-  written : (b : Account) (n : ℕ) → b.number ≡ a.number → b.room ≡ a.room → ((m : ℕ) → m ≢ n → has_unspent b.number m b.holds ≡ has_unspent a.number m a.holds) → NoneNamed n rest → (s : State) (o : Option (Task K)) → StandsAt b s o → Reordered (claims_of demand (set (tasks t) p o)) b.rows → Sound b → Agrees demand b t.number (set t.states p s) (set t.places.now p o)
+  written : (b : Account) (n : ℕ) → b.number ≡ a.number → b.room ≡ a.room → ((m : ℕ) → m ≢ n → has_unspent b.number m b.holds ≡ has_unspent a.number m a.holds) → has_number n rest ≡ false → (s : State) (o : Option (Task K)) → StandsAt b s o → Reordered (claims_of demand (set (tasks t) p o)) b.rows → Sound b → Agrees demand b t.number (set t.states p s) (set t.places.now p o)
   written b n number room still apart s o new rows sound = record {
     number_is = number ∙ agrees.number_is;
     states_are = length-set t.states p s ∙ agrees.states_are;
@@ -82,13 +82,13 @@ module _ {K : Type 0} {demand : K → Demand} {a : Account} (t : Table K) (agree
     split : Reordered a.rows (claim demand u ∷ rest)
     split = through (reordered_back agrees.rows_are) (subst (λ xs. Reordered (claims_of demand xs) (claim demand u ∷ rest)) there (put_in demand (tasks t) p u (let l = length-take 12 t.places.now in let w = used in omega arith)))
 
-    alone : NoneNamed u.row.number rest
-    alone = (numbers_reordered split agrees.sound.numbers).0
+    alone : has_number u.row.number rest ≡ false
+    alone = no_number u.row.number rest (pairs_head (λ c d. number_of c ≢ number_of d) (claim demand u) rest (numbers_reordered split agrees.sound.numbers))
 
     -- it goes out, and leaves these holds
     row_out : (n : ℕ) → n ≡ u.row.number → (hs : List Bears) → ((m : ℕ) → m ≢ n → has_unspent a.number m hs ≡ has_unspent a.number m a.holds) → Sound (record { number = a.number; room = a.room; rows = without_row n a.rows; holds = hs }) → Agrees demand (record { number = a.number; room = a.room; rows = without_row n a.rows; holds = hs }) t.number (set t.states p Free) (set t.places.now p None)
     row_out n is hs still sound =
-        let apart : NoneNamed n rest = subst (λ m. NoneNamed m rest) (sym is) alone in
+        let apart : has_number n rest ≡ false = rw is alone in
         written (record { number = a.number; room = a.room; rows = without_row n a.rows; holds = hs }) n refl refl still apart Free None tt
         (reordered_back (subst (Reordered (without_row n a.rows)) (let out : without_row n (claim demand u ∷ rest) ≡ without_row n rest = grind (arith, nat_tests) in out ∙ without_none n rest apart) (filter_reordered (λ c. not (eqb (number_of c) n)) split))) sound
 
@@ -108,7 +108,7 @@ module _ {K : Type 0} {demand : K → Demand} {a : Account} (t : Table K) (agree
       let rows : Reordered (claims_of demand (set (tasks t) p None)) a.rows = subst (λ xs. Reordered (claims_of demand xs) a.rows) (sym empty) agrees.rows_are in
       put_agrees put
       (written t agrees p at.0 (with_row a (claim demand task)) n refl refl (λ m ne. unspent_more a.number m n ne a.holds)
-      (named_reordered n (reordered_back rows) (passed a (claim demand task) passes).number) (Held n) (Some task) (refl, unspent_new a.number n a.holds)
+      (number_reordered n rows ∙ (passed a (claim demand task) passes).number) (Held n) (Some task) (refl, unspent_new a.number n a.holds)
       (through (put_in demand (tasks t) p task (let l = length-take 12 t.places.now in let w = at.0 in omega arith)) (next rows))
       (with_row_sound a agrees.sound (claim demand task) lawful passes in_time))
 
@@ -122,7 +122,7 @@ module _ {K : Type 0} {demand : K → Demand} {a : Account} (t : Table K) (agree
       let table : h.table ≡ a.number = ours ∙ sym agrees.number_is in
       subst (Agrees demand (with_kept a h) t.number (set t.states p (Kept h.row))) same_places
       (written t agrees p used (with_kept a h) h.row refl refl (λ m ne. others_stay h.table h.row a.number m a.holds ne)
-      (subst (λ m. NoneNamed m (rest t agrees p used)) (sym it.number) (alone t agrees p used it.task it.stands)) (Kept h.row) (Some it.task)
+      (rw it.number (alone t agrees p used it.task it.stands)) (Kept h.row) (Some it.task)
       (it.number, subst (λ m. has_unspent m h.row (without_hold h.table h.row a.holds) ≡ false) table (spent_gone h.table h.row a.holds))
       (subst (λ xs. Reordered (claims_of demand xs) a.rows) (sym (there t agrees p used it.task it.stands)) agrees.rows_are) (with_kept_sound a agrees.sound h))
 

@@ -2,7 +2,6 @@
 use Rattle.std.specs.List.{list_any}
 use Rattle.std.proofs.Common.{◌≡◌, ℕ, zero, suc, ◌<◌, inl, inr, get_or, length, true, false, eqb, List, [], ◌∷◌, IfErr, IfOk, IsOk, Ok, Err, Result, ap, ◌∙◌, sym, subst, refl, arith}
 use Rattle.std.proofs.Math.Logic.{∥∥₁_elim, ∥∥₁_map}
-use Rattle.std.proofs.lemmas.Bool.Decides.{nat_tests}
 use Rattle.std.proofs.lemmas.Bool.{cases_Bool, and_from, both_ways, eq-eqb, or_left, eqb-true, or_right}
 use Rattle.std.specs.Coded.{Coded-set, coded_bool, coded_ℕ}
 use Rattle.analysis.specs.declared.judgement.JudgeRefusal.{JudgeRefusal}
@@ -17,7 +16,7 @@ use Rattle.table.specs.declared.refusals.SpendRefusal.TheVariants.{NotHeld}
 use Rattle.table.specs.declared.Table.{Table}
 use Rattle.table.specs.declared.refusals.WithdrawRefusal.{WithdrawRefusal}
 use Rattle.table.specs.Account.{Accepted, Account, Bears, Holds, Spends, Withdraws, bears, has_number, number_of, has_unspent, with_row}
-use Rattle.table.specs.Agreement.{AgreesWith, NoneNamed}
+use Rattle.table.specs.Agreement.{AgreesWith}
 use Rattle.table.specs.History.{Continues, HasSomeHistory, account_of}
 use Rattle.table.specs.Places.{has_held, is_held, HeldHere}
 use Rattle.table.specs.Runs.{keeping, releasing}
@@ -61,9 +60,8 @@ bears_of h = record { table = h.table; row = h.row }
 pub same_numbers : (g h : Hold) → g.table ≡ h.table → g.row ≡ h.row → g ≡ h
 same_numbers g h table row = ap (λ n. hold_of n g.row) table ∙ ap (hold_of h.table) row
 
-pub none_has : (n : ℕ) (cs : List Claim) → NoneNamed n cs → has_number n cs ≡ true → ⊥
-none_has n [] none e = cc
-none_has n (c ∷ cs) none e = grind (arith, nat_tests, none_has n cs none.1)
+pub none_has : (n : ℕ) (cs : List Claim) → has_number n cs ≡ false → has_number n cs ≡ true → ⊥
+none_has n cs none e = both_ways (has_number n cs) none e
 
 -- a hold that was accepted bears the two numbers that the account has of it
 pub given_bears : (a : Account) (c : Claim) (h : Hold) → Accepted a c h → bears h.table h.row (record { table = a.number; row = number_of c }) ≡ true

@@ -1,17 +1,19 @@
 -- Every call keeps the account sound. Assumes nothing.
-use Rattle.std.proofs.Common.{◌≡◌, ℕ, true, false, eqb, List, [], ◌∷◌, Ok, Err, refl, not-suc-le-zero}
+use Rattle.std.proofs.Common.{◌≡◌, ◌==◌, ◌≢◌, ℕ, true, false, not, eqb, List, [], ◌∷◌, Ok, Err, refl, not-suc-le-zero}
+use Rattle.std.proofs.lemmas.List.Elements.{All-cons, All-filter, All-nil}
+use Rattle.std.proofs.lemmas.List.Kept.{AllPairs-cons, AllPairs-filter}
 use Rattle.std.proofs.lemmas.Bool.{or_left, eq-eqb}
 use Rattle.demand.specs.Demand.{Lawful}
 use Rattle.demand.specs.Refusals.{first}
 use Rattle.analysis.specs.Ranks.{Claim}
 use Rattle.analysis.proofs.Removal.{removal_keeps_in_time}
 use Rattle.table.specs.declared.hold.Hold.{Hold}
-use Rattle.table.specs.Account.{Account, Bears, AllInTime, fresh_account, number_of, has_number, hold_checks, has_unspent, has_hold_on, without_hold, without_row, with_row, with_kept, with_withdrawn}
+use Rattle.table.specs.Account.{Account, Bears, bears, AllInTime, fresh_account, number_of, has_number, hold_checks, has_unspent, has_hold_on, without_hold, without_row, with_row, with_kept, with_withdrawn}
 use Rattle.table.specs.Agreement.{Sound, OwnHolds}
 use Rattle.table.specs.Runs.{Event, holding, keeping, releasing, withdrawing, bounding, Step, after_all, Run}
 use Rattle.table.proofs.Checks.{is_unspent, not_held}
 use Rattle.table.proofs.Shared.{passed, ranked_lawful}
-use Rattle.table.proofs.Parts.{without_some, numbers_kept, priorities_kept, lawful_kept, own_more, own_spent, own_without, own_released, unspent_own}
+use Rattle.table.proofs.Parts.{without_some, priorities_kept, other_numbers, own_more, own_without, own_released, unspent_own}
 
 still_in_time : (n : ℕ) (a : Account) → Sound a → AllInTime (without_row n a.rows)
 still_in_time n a s =
@@ -21,25 +23,25 @@ still_in_time n a s =
 pub fresh_sound : (number room : ℕ) → Sound (fresh_account number room)
 fresh_sound number room =
     record {
-      numbers = tt;
+      numbers = λ i j d l m. absurd (not-suc-le-zero m);
       priorities = tt;
-      lawful = tt;
+      lawful = All-nil (λ c. Lawful c.demand);
       in_time = record { R = λ k. 0; V = λ k. 0; bounds = λ k h. absurd (not-suc-le-zero h) };
-      holds = tt;
+      holds = λ k d l. absurd (not-suc-le-zero l);
     }
 
 pub with_row_sound : (a : Account) → Sound a → (c : Claim) → Lawful c.demand → first (hold_checks a c) ≡ 0 → AllInTime (c ∷ a.rows) → Sound (with_row a c)
 with_row_sound a s c lawful passes in_time =
     let new = passed a c passes in
     record {
-      numbers = (new.number, s.numbers);
+      numbers = AllPairs-cons (λ c d. number_of c ≢ number_of d) c a.rows (other_numbers (number_of c) a.rows new.number) s.numbers;
       priorities = (new.priority, s.priorities);
-      lawful = (lawful, s.lawful);
+      lawful = All-cons (λ c. Lawful c.demand) c a.rows lawful s.lawful;
       in_time = in_time;
-      holds = (
-        (refl, or_left (eqb (number_of c) (number_of c)) (has_number (number_of c) a.rows) (eq-eqb (number_of c) (number_of c) refl)),
-        own_more a.number a.rows c a.holds s.holds,
-      );
+      holds =
+          All-cons (λ h. (h.table ≡ a.number) × (has_number h.row (c ∷ a.rows) ≡ true)) (record { table = a.number; row = number_of c }) a.holds
+          (refl, or_left (eqb (number_of c) (number_of c)) (has_number (number_of c) a.rows) (eq-eqb (number_of c) (number_of c) refl))
+          (own_more a.number a.rows c a.holds s.holds);
     }
 
 pub with_kept_sound : (a : Account) → Sound a → (h : Hold) → Sound (with_kept a h)
@@ -49,16 +51,16 @@ with_kept_sound a s h =
       priorities = s.priorities;
       lawful = s.lawful;
       in_time = s.in_time;
-      holds = own_spent a.number a.rows h.table h.row a.holds s.holds;
+      holds = All-filter (λ b. not (bears h.table h.row b)) (λ b. (b.table ≡ a.number) × (has_number b.row a.rows ≡ true)) a.holds s.holds;
     }
 
 -- the row of the number n goes out, and these holds are left
 out_sound : (a : Account) → Sound a → (n : ℕ) (hs : List Bears) → OwnHolds a.number (without_row n a.rows) hs → Sound (record { number = a.number; room = a.room; rows = without_row n a.rows; holds = hs })
 out_sound a s n hs own =
     record {
-      numbers = numbers_kept (without_some n a.rows) s.numbers;
+      numbers = AllPairs-filter (λ c d. number_of c ≢ number_of d) (λ c. not (number_of c == n)) a.rows s.numbers;
       priorities = priorities_kept (without_some n a.rows) s.priorities;
-      lawful = lawful_kept (without_some n a.rows) s.lawful;
+      lawful = All-filter (λ c. not (number_of c == n)) (λ c. Lawful c.demand) a.rows s.lawful;
       in_time = still_in_time n a s;
       holds = own;
     }

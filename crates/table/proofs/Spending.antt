@@ -1,9 +1,11 @@
 -- Holds that are spent and holds that are not, by where they stand in the table. Assumes nothing.
-use Rattle.std.proofs.Common.{◌≢◌, ◌≡◌, ℕ, ◌<◌, Bool, true, false, List, [], ◌∷◌, Some, None, Option, Err, Result, sym, refl, ap, ◌∙◌, subst, arith}
+use Rattle.std.proofs.Common.{◌≢◌, ◌≡◌, ℕ, ◌<◌, Bool, true, false, not, get_or, List, [], ◌∷◌, Some, None, Option, Err, Result, sym, refl, ap, ◌∙◌, subst, arith}
 use Rattle.std.proofs.lemmas.List.{length-take}
+use Rattle.std.proofs.lemmas.List.Elements.{All-head, All-tail, filter_passes}
+use Rattle.std.proofs.lemmas.List.Folds.{list_any_none}
 use Rattle.std.proofs.lemmas.List.Recursion.{or_from_places}
 use Rattle.std.proofs.lemmas.Bool.Decides.{nat_tests}
-use Rattle.std.proofs.lemmas.Bool.{both_ways, eqb-true, false_from_ne_true}
+use Rattle.std.proofs.lemmas.Bool.{both_ways, eqb-true, false_from_ne_true, not-true}
 use Rattle.demand.specs.Demand.{Demand}
 use Rattle.analysis.specs.declared.Task.{Task}
 use Rattle.analysis.specs.Candidates.{claims_of}
@@ -15,7 +17,7 @@ use Rattle.table.specs.declared.state.State.{State}
 use Rattle.table.specs.declared.state.State.TheVariants.{Free, Held, Kept}
 use Rattle.table.specs.declared.Table.{Table}
 use Rattle.demand.specs.Refusals.{first}
-use Rattle.table.specs.Account.{Account, Bears, has_number, has_unspent, has_hold_on, without_hold, spend_checks, Spends}
+use Rattle.table.specs.Account.{Account, Bears, bears, has_number, has_unspent, has_hold_on, without_hold, spend_checks, Spends}
 use Rattle.table.specs.Agreement.{AgreesWith, StandsAt, StateOf, OwnHolds}
 use Rattle.table.specs.Places.{names, At, HeldHere}
 use Rattle.table.proofs.Lookups.{tasks, task_at, state_at, AtLow, named, named_more, number_found}
@@ -26,12 +28,11 @@ use Rattle.table.proofs.Shared.{number_reordered}
 -- all holds are of one table, so its number need not be looked at
 same_held : (table n : ℕ) (cs : List Claim) (hs : List Bears) → OwnHolds table cs hs → has_hold_on n hs ≡ has_unspent table n hs
 same_held table n cs [] own = refl
-same_held table n cs (h ∷ hs) own = grind (arith, nat_tests, same_held table n cs hs own.1)
+same_held table n cs (h ∷ hs) own = grind (arith, nat_tests, (All-head (λ g. (g.table ≡ table) × (has_number g.row cs ≡ true)) h hs own).0, same_held table n cs hs (All-tail (λ g. (g.table ≡ table) × (has_number g.row cs ≡ true)) h hs own))
 
 -- after a hold is spent none bears its numbers
 pub spent_gone : (table n : ℕ) (hs : List Bears) → has_unspent table n (without_hold table n hs) ≡ false
-spent_gone table n [] = refl
-spent_gone table n (h ∷ hs) = grind (arith, nat_tests, spent_gone table n hs)
+spent_gone table n hs = list_any_none (bears table n) (without_hold table n hs) (λ k d l. not-true (bears table n (get_or (without_hold table n hs) k d)) (filter_passes (λ h. not (bears table n h)) hs k d l))
 
 module _ {K : Type 0} (a : Account) (n : ℕ) where
   -- where the hold of a task's row is unspent, the row is held

@@ -1,7 +1,7 @@
 -- When a table agrees with an account. Assumes nothing.
 -- How to read it: `Agrees` ties the fields of a table to an account, and `demand` is what values of the kind K mean. Up to `Sound` all is about
 -- accounts alone.
-use Rattle.std.specs.Prelude.{◌≡◌, ℕ, ◌<◌, min, true, false, ◌≢◌, List, [], ◌∷◌, length, take, Some, None, Option, slice_index_or}
+use Rattle.std.specs.Prelude.{◌≡◌, ℕ, ◌<◌, min, true, false, ◌≢◌, List, length, All, AllPairs, take, Some, None, Option, slice_index_or}
 use Rattle.demand.specs.Demand.{Demand, Lawful}
 use Rattle.analysis.specs.declared.Task.{Task}
 use Rattle.analysis.specs.Candidates.{claims_of}
@@ -12,25 +12,17 @@ use Rattle.table.specs.declared.state.State.TheVariants.{Free, Held, Kept}
 use Rattle.analysis.specs.declared.TheConstants.{MOST_ROWS}
 use Rattle.table.specs.Account.{Account, Bears, number_of, has_number, has_unspent, has_hold_on, AllInTime}
 
--- no row of these has the number n
-abbrev pub NoneNamed : ℕ → List Claim → Type 0
-NoneNamed n [] = Unit {0}
-NoneNamed n (c ∷ cs) = (number_of c ≢ n) × NoneNamed n cs
-
 -- no two rows share a number
 abbrev pub DistinctNumbers : List Claim → Type 0
-DistinctNumbers [] = Unit {0}
-DistinctNumbers (c ∷ cs) = NoneNamed (number_of c) cs × DistinctNumbers cs
+DistinctNumbers cs = AllPairs (λ c d. number_of c ≢ number_of d) cs
 
 -- each row's kind keeps the laws
 abbrev pub LawfulRows : List Claim → Type 0
-LawfulRows [] = Unit {0}
-LawfulRows (c ∷ cs) = Lawful c.demand × LawfulRows cs
+LawfulRows cs = All (λ c. Lawful c.demand) cs
 
 -- each unspent hold is of this table and of one of its rows
 abbrev pub OwnHolds : ℕ → List Claim → List Bears → Type 0
-OwnHolds table cs [] = Unit {0}
-OwnHolds table cs (h ∷ hs) = ((h.table ≡ table) × (has_number h.row cs ≡ true)) × OwnHolds table cs hs
+OwnHolds table cs hs = All (λ h. (h.table ≡ table) × (has_number h.row cs ≡ true)) hs
 
 -- what is true of the account after every run
 pub record Sound (a : Account) : Type 0 where
