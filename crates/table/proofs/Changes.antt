@@ -16,7 +16,7 @@ use Rattle.table.specs.declared.state.State.TheVariants.{Free, Held, Kept}
 use Rattle.table.specs.declared.Table.{Table}
 use Rattle.table.specs.Account.{Account, Bears, has_number, number_of, hold_checks, has_unspent, without_hold, without_row, AllInTime, with_row, with_kept, with_released, with_withdrawn}
 use Rattle.table.specs.Agreement.{Sound, StandsAt, Agrees, AgreesWith}
-use Rattle.table.specs.Memory.{PutAt}
+use Rattle.table.specs.Memory.{PutAt, StateAt}
 use Rattle.table.specs.Places.{Uses, At}
 use Rattle.table.proofs.Kept.{with_row_sound, with_kept_sound, released_sound, with_withdrawn_sound}
 use Rattle.table.proofs.Lookups.{tasks, task_at, state_at, AtLow, within}
@@ -96,6 +96,10 @@ module _ {K : Type 0} {demand : K → Demand} {a : Account} (t : Table K) (agree
 put_agrees : {K : Type 0} {demand : K → Demand} {b : Account} {t u : Table K} {p : ℕ} {s : State} {o : Option (Task K)} → PutAt t u p s o → Agrees demand b t.number (set t.states p s) (set t.places.now p o) → AgreesWith demand b u
 put_agrees {demand = demand} {b = b} put agrees = subst₃ (Agrees demand b) (sym put.number) (sym put.states) (sym put.places) agrees
 
+-- and after its state was written
+state_agrees : {K : Type 0} {demand : K → Demand} {b : Account} {t u : Table K} {p : ℕ} {s : State} → StateAt t u p s → Agrees demand b t.number (set t.states p s) t.places.now → AgreesWith demand b u
+state_agrees {demand = demand} {b = b} marked agrees = subst₃ (Agrees demand b) (sym marked.number) (sym marked.states) (sym marked.places) agrees
+
 nothing_stands : {K : Type 0} (a : Account) (o : Option (Task K)) → StandsAt a Free o → o ≡ None
 nothing_stands a o s = grind arith
 
@@ -113,18 +117,19 @@ module _ {K : Type 0} {demand : K → Demand} {a : Account} (t : Table K) (agree
       (with_row_sound a agrees.sound (claim demand task) lawful passes in_time))
 
   -- the hold of a row that is held here is spent, and the row stays
-  pub row_kept : (h : Hold) (p : ℕ) → h.table ≡ t.number → AtLow t (λ s. s ≡ Held h.row) p → Agrees demand (with_kept a h) t.number (set t.states p (Kept h.row)) t.places.now
-  row_kept h p ours at =
+  pub row_kept : (u : Table K) (h : Hold) (p : ℕ) → h.table ≡ t.number → AtLow t (λ s. s ≡ Held h.row) p → StateAt t u p (Kept h.row) → AgreesWith demand (with_kept a h) u
+  row_kept u h p ours at marked =
       let it = held_at t agrees h.row p at in
       let used : Uses t p = (at.0, within t p it.task it.stands) in
       let is : get_or t.places.now p None ≡ Some it.task = sym (get_or-take 12 t.places.now p None at.0) ∙ it.stands in
       let same_places : set t.places.now p (Some it.task) ≡ t.places.now = subst (λ o. set t.places.now p o ≡ t.places.now) is (set-get_or t.places.now p None) in
       let table : h.table ≡ a.number = ours ∙ sym agrees.number_is in
-      subst (Agrees demand (with_kept a h) t.number (set t.states p (Kept h.row))) same_places
+      state_agrees marked
+      (subst (Agrees demand (with_kept a h) t.number (set t.states p (Kept h.row))) same_places
       (written t agrees p used (with_kept a h) h.row refl refl (λ m ne. others_stay h.table h.row a.number m a.holds ne)
       (rw it.number (alone t agrees p used it.task it.stands)) (Kept h.row) (Some it.task)
       (it.number, subst (λ m. has_unspent m h.row (without_hold h.table h.row a.holds) ≡ false) table (spent_gone h.table h.row a.holds))
-      (subst (λ xs. Reordered (claims_of demand xs) a.rows) (sym (there t agrees p used it.task it.stands)) agrees.rows_are) (with_kept_sound a agrees.sound h))
+      (subst (λ xs. Reordered (claims_of demand xs) a.rows) (sym (there t agrees p used it.task it.stands)) agrees.rows_are) (with_kept_sound a agrees.sound h)))
 
   -- the hold of a row that is held here is spent, and the row goes out
   pub row_released : (u : Table K) (h : Hold) (p : ℕ) → h.table ≡ t.number → AtLow t (λ s. s ≡ Held h.row) p → PutAt t u p Free None → AgreesWith demand (with_released a h) u

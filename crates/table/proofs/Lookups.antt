@@ -145,7 +145,7 @@ module _ {K : Type 0} {demand : K → Demand} {a : Account} (t : Table K) (agree
 
 -- what a place gives where its tasks are gone through: its task, if it has one
 pub given_at : {A : Type 0} (s : OptionIter A) (o : Option A) → option_iter_item s ≡ o → option_iter_done s ≡ false → YieldsList option_iter_steps (λ x. x.now) s (option_to_list o)
-given_at {A} s o item fresh_account = subst (YieldsList option_iter_steps (λ x. x.now) s) (ap left_of fresh_account ∙ ap option_to_list item) (YieldsList-from_shown option_iter_steps (λ x. x.now) left none some s)
+given_at {A} s o item unread = subst (YieldsList option_iter_steps (λ x. x.now) s) (ap left_of unread ∙ ap option_to_list item) (YieldsList-from_shown option_iter_steps (λ x. x.now) left none some s)
   where
     left_of : Bool → List A
     left_of b = cond b [] (option_to_list (option_iter_item s))

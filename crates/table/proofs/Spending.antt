@@ -5,7 +5,7 @@ use Rattle.std.proofs.lemmas.List.Elements.{All-head, All-tail, filter_passes}
 use Rattle.std.proofs.lemmas.List.Folds.{list_any_none}
 use Rattle.std.proofs.lemmas.List.Recursion.{or_from_places}
 use Rattle.std.proofs.lemmas.Bool.Decides.{nat_tests}
-use Rattle.std.proofs.lemmas.Bool.{both_ways, eqb-true, false_from_ne_true, not-true}
+use Rattle.std.proofs.lemmas.Bool.{both_ways, eq-eqb, false_from_ne_true, not-true}
 use Rattle.demand.specs.Demand.{Demand}
 use Rattle.analysis.specs.declared.Task.{Task}
 use Rattle.analysis.specs.Candidates.{claims_of}
@@ -13,15 +13,17 @@ use Rattle.analysis.specs.Ranks.{Claim}
 use Rattle.table.specs.declared.hold.Hold.{Hold}
 use Rattle.table.specs.declared.refusals.SpendRefusal.{SpendRefusal}
 use Rattle.table.specs.declared.refusals.SpendRefusal.TheVariants.{NotHeld}
+use Rattle.table.specs.declared.refusals.WithdrawRefusal.{WithdrawRefusal}
+use Rattle.table.specs.declared.refusals.WithdrawRefusal.TheVariants.{NoSuchRow, NotKept}
 use Rattle.table.specs.declared.state.State.{State}
 use Rattle.table.specs.declared.state.State.TheVariants.{Free, Held, Kept}
 use Rattle.table.specs.declared.Table.{Table}
 use Rattle.demand.specs.Refusals.{first}
-use Rattle.table.specs.Account.{Account, Bears, bears, has_number, has_unspent, has_hold_on, without_hold, spend_checks, Spends}
+use Rattle.table.specs.Account.{Account, Bears, bears, has_number, has_unspent, has_hold_on, without_hold, spend_checks, withdraw_checks, withdraw_number, Spends}
 use Rattle.table.specs.Agreement.{AgreesWith, StandsAt, StateOf, OwnHolds}
-use Rattle.table.specs.Places.{names, At, HeldHere}
+use Rattle.table.specs.Places.{names, At, HeldHere, NoneKept, StateHere}
 use Rattle.table.proofs.Lookups.{tasks, task_at, state_at, AtLow, named, named_more, number_found}
-use Rattle.table.proofs.Checks.{spent_applies, unspent_passes}
+use Rattle.table.proofs.Checks.{held_applies, no_row_applies, spent_applies, unspent_passes, withdraw_passes}
 use Rattle.table.proofs.Parts.{unspent_own, unspent_row}
 use Rattle.table.proofs.Shared.{number_reordered}
 
@@ -77,14 +79,29 @@ module _ {K : Type 0} {demand : K → Demand} {a : Account} (t : Table K) (agree
   pub has_row : (n p : ℕ) → AtLow t (λ s. names s n ≡ true) p → has_number n a.rows ≡ true
   has_row n p at = sym (number_found t agrees n (Some p) at)
 
+  names_it : (s : State) (n p : ℕ) → names s n ≡ true → AtLow t (λ x. x ≡ s) p → AtLow t (λ x. names x n ≡ true) p
+  names_it s n p named at = (at.0, subst (λ x. names x n ≡ true) (sym at.1) named)
+
   -- what the account says of a row is the state at its place
-  pub state_is : (n p : ℕ) → AtLow t (λ s. names s n ≡ true) p → StateOf a n (state_at t p)
-  state_is n p at = go (state_at t p) refl at.1
-    where
-      go : (s : State) → state_at t p ≡ s → names s n ≡ true → StateOf a n s
-      go Free e named = cc
-      go (Held m) e named = let same : m ≡ n = eqb-true m n named in (same, has_row n p at, is_held n p (at.0, e ∙ ap Held same))
-      go (Kept m) e named = let same : m ≡ n = eqb-true m n named in (same, has_row n p at, (is_spent n p (at.0, e ∙ ap Kept same)).1)
+  pub state_is : (n : ℕ) (s : State) → StateHere t n s → StateOf a n s
+  state_is n Free none = sym (number_found t agrees n None none)
+  state_is n (Held m) (same, there) =
+      let at : AtLow t (λ s. s ≡ Held n) there.0 = (there.1.0.0, there.1.1 ∙ ap Held same) in
+      (same, has_row n there.0 (names_it (Held n) n there.0 (eq-eqb n n refl) at), is_held n there.0 at)
+  state_is n (Kept m) (same, there) =
+      let at : AtLow t (λ s. s ≡ Kept n) there.0 = (there.1.0.0, there.1.1 ∙ ap Kept same) in
+      (same, has_row n there.0 (names_it (Kept n) n there.0 (eq-eqb n n refl) at), (is_spent n there.0 at).1)
+
+  -- a kept row may be withdrawn
+  pub may_withdraw : (n p : ℕ) → AtLow t (λ s. s ≡ Kept n) p → first (withdraw_checks a n) ≡ 0
+  may_withdraw n p at = withdraw_passes (has_number n a.rows) (has_hold_on n a.holds) (has_row n p (names_it (Kept n) n p (eq-eqb n n refl) at)) (is_spent n p at).1
+
+  -- and one that is not kept may not
+  pub not_withdrawn : (n : ℕ) (e : WithdrawRefusal) → NoneKept t n e → first (withdraw_checks a n) ≡ withdraw_number e
+  not_withdrawn n NoSuchRow none = no_row_applies (has_number n a.rows) (has_hold_on n a.holds) (sym (number_found t agrees n None none))
+  not_withdrawn n NotKept there =
+      let at : AtLow t (λ s. s ≡ Held n) there.0 = (there.1.0.0, there.1.1) in
+      held_applies (has_number n a.rows) (has_hold_on n a.holds) (has_row n there.0 (names_it (Held n) n there.0 (eq-eqb n n refl) at)) (is_held n there.0 at)
 
   -- a hold is unspent exactly where its row is held here
   pub still_ours : (h : Hold) (p : ℕ) → HeldHere t h p → has_unspent h.table h.row a.holds ≡ true

@@ -36,6 +36,13 @@ module _ {K : Type 0} (t u : Table K) where
     pub was : slice_index_or t.states place Free ≡ before
     pub put : PutAt place after content
 
+  -- this place has the state `after`, and nothing else has changed
+  pub record StateAt (place : ℕ) (after : State) : Type 0 where
+    pub number : u.number ≡ t.number
+    pub states : u.states ≡ slice_set t.states place after
+    pub places : u.places.now ≡ t.places.now
+    pub lent : u.places.ghost_name ≡ t.places.ghost_name
+
   -- one place has another state, and the memory is the same
   pub record MarkedAt (before after : State) : Type 0 where
     pub place : ℕ

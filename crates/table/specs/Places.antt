@@ -1,6 +1,6 @@
 -- What stands at a place, and at which places a table looks. Assumes nothing.
 -- How to read it: t is a table, p a place, and P something that is said of the state at a place.
-use Rattle.std.specs.Prelude.{◌≡◌, ℕ, ◌<◌, Bool, false, List, length, Option, MatchOption, ◌==◌, slice_index_or}
+use Rattle.std.specs.Prelude.{◌≡◌, ℕ, ◌<◌, Bool, true, false, List, length, Option, MatchOption, ◌==◌, slice_index_or}
 use Rattle.std.specs.List.{find, list_any}
 use Rattle.std.specs.Option.{option_map}
 use Rattle.analysis.specs.declared.TheConstants.{MOST_ROWS}
@@ -8,6 +8,8 @@ use Rattle.analysis.specs.declared.Answer.{Answer}
 use Rattle.table.specs.declared.hold.Hold.{Hold}
 use Rattle.table.specs.declared.state.State.{State}
 use Rattle.table.specs.declared.state.State.TheVariants.{Free, Held, Kept}
+use Rattle.table.specs.declared.refusals.WithdrawRefusal.{WithdrawRefusal}
+use Rattle.table.specs.declared.refusals.WithdrawRefusal.TheVariants.{NoSuchRow, NotKept}
 use Rattle.table.specs.declared.Table.{Table}
 
 -- a row with the number n stands there
@@ -50,3 +52,14 @@ module _ {K : Type 0} (t : Table K) where
   -- the row of the hold is held at no place
   abbrev pub HeldNowhere : Hold → Type 0
   HeldNowhere h = (p : ℕ) → HeldHere h p → ⊥
+
+  -- why no row with the number n is withdrawn: no place names it, or one has it as held
+  abbrev pub NoneKept : ℕ → WithdrawRefusal → Type 0
+  NoneKept n NoSuchRow = (p : ℕ) → At (λ s. names s n ≡ true) p → ⊥
+  NoneKept n NotKept = (p : ℕ) × At (λ s. s ≡ Held n) p
+
+  -- s is the state at a place that names the number n, or free where none does
+  abbrev pub StateHere : ℕ → State → Type 0
+  StateHere n Free = (p : ℕ) → At (λ s. names s n ≡ true) p → ⊥
+  StateHere n (Held m) = (m ≡ n) × ((p : ℕ) × At (λ s. s ≡ Held m) p)
+  StateHere n (Kept m) = (m ≡ n) × ((p : ℕ) × At (λ s. s ≡ Kept m) p)

@@ -8,8 +8,8 @@ ghost use Rattle.table.specs.declared.state.State.TheVariants.{Free, Held, Kept}
 ghost use Rattle.table.specs.Account.{fresh_account, is_no_number, is_no_priority, row_checks, check_number, hold_number, hold_late, Holds, HoldsAnswered, hold_part, Spends, with_kept, with_released, Withdraws, BoundsAnswered};
 ghost use Rattle.table.specs.declared.refusals.SpendRefusal.TheVariants.{NotHeld};
 ghost use Rattle.table.specs.Agreement.{AgreesWith, FollowsAccount, MatchesAccount};
-ghost use Rattle.table.specs.Memory.{Emptied, PutAt, ChangesOnOk, MarksOnOk};
-ghost use Rattle.table.specs.Places.{Uses, HeldHere, HeldNowhere};
+ghost use Rattle.table.specs.Memory.{Emptied, PutAt, StateAt, ChangesOnOk, MarksOnOk};
+ghost use Rattle.table.specs.Places.{Uses, At, HeldHere, HeldNowhere, NoneKept};
 ghost use Rattle.table.specs.Runs.{holding, keeping, releasing, withdrawing, bounding};
 ghost use Rattle.table.specs.History.{HasHistory, Continues, EveryHistory};
 
@@ -18,7 +18,7 @@ use super::{
     BoundRefusal, Hold, HoldRefusal, LARGEST_NUMBER, LARGEST_PRIORITY, LONGEST_SUSPENSION,
     MOST_ROWS, MOST_SUSPENSIONS, SpendRefusal, State, Table, WithdrawRefusal,
 };
-use analysis::{Answers, JudgeRefusal, Row, Task, judge};
+use analysis::{Answers, JudgeRefusal, Row, Task};
 use demand::Kind;
 
 // Whether no row may have this number.
@@ -35,9 +35,18 @@ fn is_no_priority(priority: u32) -> bool
     !(1..=LARGEST_PRIORITY).contains(&priority)
 }
 
+// Empties the places that a table may use.
+fn empty<K: Drop>(places: &mut [Option<Task<K>>])
+    ensures { Emptied places.old places.new }
+{
+    let limit = places.len().min(MOST_ROWS);
+    places[..limit].fill_with(|| None);
+}
+
 impl<'a, K: Kind + Drop> Table<'a, K> {
     /// An empty table of this number over row memory, of which it uses the first [`MOST_ROWS`] places at most. What stood at
     /// those is let go, and the places behind them are never touched. Two tables whose holds may meet need two numbers.
+    #[tactic(auto, using(crate::proofs::Histories::every_history))]
     pub fn new(number: u8, places: &'a mut [Option<Task<K>>]) -> Table<'a, K>
         ensures agrees { AgreesWith K.demand
             (fresh_account number (min (length places.old) MOST_ROWS)) result }
@@ -47,8 +56,7 @@ impl<'a, K: Kind + Drop> Table<'a, K> {
         ensures number { result.number ≡ number }
         ensures lent { result.places.ghost_name ≡ places.entry.ghost_name }
     {
-        let limit = places.len().min(MOST_ROWS);
-        places[..limit].fill_with(|| None);
+        empty(places);
         Table {
             number,
             states: [State::Free; MOST_ROWS],
@@ -102,7 +110,7 @@ impl<'a, K: Kind + Drop> Table<'a, K> {
         self.check_row(&row, &kind)?;
         let place = self.place_in(State::Free).ok_or(HoldRefusal::NoPlace)?;
         let newcomer = Some(Task { row, kind });
-        let answers = judge(self.used(), &newcomer)?;
+        let answers = self.judged(&newcomer)?;
         self.put(place, newcomer, State::Held(row.number));
         let hold = Hold {
             table: self.number,
@@ -139,6 +147,14 @@ impl<'a, K: Kind + Drop> Table<'a, K> {
         }
     }
 
+    // Marks the row at a place as kept.
+    fn mark_kept(&mut self, place: usize, row: u32)
+        requires { Uses self.old place }
+        ensures { StateAt self.old self.new place (Kept row) }
+    {
+        self.states[place] = State::Kept(row);
+    }
+
     /// Spends a hold, and keeps its row. The error (12) comes where the hold is another table's, or its row is not held here: then
     /// the hold comes back, and nothing has changed.
     pub fn keep(&mut self, hold: Hold) -> Result<(), SpendRefusal>
@@ -149,7 +165,7 @@ impl<'a, K: Kind + Drop> Table<'a, K> {
     {
         let row = hold.row;
         let place = self.spend(hold)?;
-        self.states[place] = State::Kept(row);
+        self.mark_kept(place, row);
         Ok(())
     }
 
@@ -165,6 +181,20 @@ impl<'a, K: Kind + Drop> Table<'a, K> {
         Ok(())
     }
 
+    // The place of a kept row, or why there is none.
+    fn kept_place(&self, number: u32) -> Result<usize, WithdrawRefusal>
+        ensures { MatchResult result (At self.now (λ s. s ≡ Kept number))
+            (NoneKept self.now number) }
+    {
+        match self.place_of(number) {
+            None => Err(WithdrawRefusal::NoSuchRow),
+            Some(place) if self.states[place] == State::Held(number) => {
+                Err(WithdrawRefusal::NotKept)
+            }
+            Some(place) => Ok(place),
+        }
+    }
+
     /// Takes the kept row of this number out. The error comes where no row has the number (13) or the row is held (14), and then
     /// nothing has changed.
     pub fn withdraw(&mut self, number: u32) -> Result<(), WithdrawRefusal>
@@ -173,10 +203,7 @@ impl<'a, K: Kind + Drop> Table<'a, K> {
         ensures history { Continues K.demand (withdrawing number result) self.old self.new }
         ensures memory { ChangesOnOk self.old self.new result (Kept number) Free None }
     {
-        let place = self.place_of(number).ok_or(WithdrawRefusal::NoSuchRow)?;
-        if self.states[place] == State::Held(number) {
-            return Err(WithdrawRefusal::NotKept);
-        }
+        let place = self.kept_place(number)?;
         self.put(place, None, State::Free);
         Ok(())
     }

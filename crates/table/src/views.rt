@@ -6,7 +6,7 @@ ghost use Rattle.table.specs.Agreement.{MatchesAccount, StateOf};
 ghost use Rattle.table.specs.History.{rows_at};
 
 use super::{State, Table};
-use analysis::{Answers, JudgeRefusal, judge};
+use analysis::{Answers, JudgeRefusal};
 use demand::Kind;
 
 impl<'a, K: Kind + Drop> Table<'a, K> {
@@ -21,7 +21,7 @@ impl<'a, K: Kind + Drop> Table<'a, K> {
     pub fn room(&self) -> usize
         ensures { MatchesAccount K.demand (λ a. result + length a.rows ≡ a.room) self.now }
     {
-        self.used().iter().filter(|place| place.is_none()).count()
+        self.free_places()
     }
 
     /// Number, bound, vector and blocking of all rows, highest priority first. The rows of a table are in time, so this is never
@@ -33,17 +33,13 @@ impl<'a, K: Kind + Drop> Table<'a, K> {
         ensures in_time { IfOk result
             (λ all. InTime (rows_at K.demand self.now) (answers_of all)) }
     {
-        judge(self.used(), &None)
+        self.judged(&None)
     }
 
     /// Whether the row of this number is held or kept, and `Free` where there is no such row.
     pub fn state_of(&self, number: u32) -> State
         ensures { MatchesAccount K.demand (λ a. StateOf a number result) self.now }
     {
-        // A match, since the check does not find what a closure of `map_or` says of the place.
-        match self.place_of(number) {
-            Some(place) => self.states[place],
-            None => State::Free,
-        }
+        self.state_here(number)
     }
 }
