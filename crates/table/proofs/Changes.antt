@@ -1,5 +1,5 @@
 -- The table and the account after a call that writes a place. Assumes nothing.
-use Rattle.std.proofs.Common.{◌≡◌, ℕ, zero, suc, ◌<◌, min, Bool, true, false, cond, eqb, ◌≢◌, List, [], ◌∷◌, length, get_or, take, set, Some, None, Option, sym, refl, ap, ◌∙◌, subst, subst₂, not-suc-le-zero, arith}
+use Rattle.std.proofs.Common.{◌≡◌, ℕ, zero, suc, ◌<◌, min, true, false, not, eqb, ◌≢◌, List, [], ◌∷◌, length, get_or, take, set, Some, None, Option, sym, refl, ap, ◌∙◌, subst, subst₂, not-suc-le-zero, arith}
 use mathlib.Core.Path.{subst₃}
 use native.Mathlib.Decide.{ℕ_discrete}
 use lib.Seq.{take-set-lt}
@@ -9,45 +9,29 @@ use Rattle.demand.specs.Demand.{Demand, Lawful}
 use Rattle.demand.specs.Refusals.{first}
 use Rattle.analysis.specs.declared.Task.{Task}
 use Rattle.analysis.specs.Candidates.{claims_of}
-use Rattle.analysis.specs.Ranks.{Claim, Reordered, same, next, swapped, through}
+use Rattle.analysis.specs.Ranks.{Claim, Reordered, next, swapped, through}
 use Rattle.table.specs.declared.hold.Hold.{Hold}
 use Rattle.table.specs.declared.state.State.{State}
 use Rattle.table.specs.declared.state.State.TheVariants.{Free, Held, Kept}
 use Rattle.table.specs.declared.Table.{Table}
-use Rattle.table.specs.Account.{Account, Bears, number_of, hold_checks, unspent, spent, without, AllInTime, with_row, with_kept, with_released, with_withdrawn}
-use Rattle.table.specs.Agreement.{NoneNamed, Sound, StandsAt, Agrees, AgreesWith}
-use Rattle.table.specs.Memory.{PutAt}
+use Rattle.table.specs.Account.{Account, Bears, has_number, number_of, hold_checks, has_unspent, without_hold, without_row, AllInTime, with_row, with_kept, with_released, with_withdrawn}
+use Rattle.table.specs.Agreement.{Sound, StandsAt, Agrees, AgreesWith}
+use Rattle.table.specs.Memory.{PutAt, StateAt}
 use Rattle.table.specs.Places.{Uses, At}
 use Rattle.table.proofs.Kept.{with_row_sound, with_kept_sound, released_sound, with_withdrawn_sound}
 use Rattle.table.proofs.Lookups.{tasks, task_at, state_at, AtLow, within}
-use Rattle.table.proofs.Parts.{others_stay}
-use Rattle.table.proofs.Shared.{reordered_refl, reordered_back, named_reordered, numbers_reordered, passed, none_named_at, stands_still}
+use Rattle.table.proofs.Parts.{no_number, others_stay, pairs_head}
+use Rattle.table.proofs.Shared.{reordered_refl, filter_reordered, reordered_back, number_reordered, numbers_reordered, passed, none_named_at, stands_still}
 use Rattle.table.proofs.Spending.{stands, held_at, kept_at, is_spent, still_ours, spent_gone}
 
-pub without_none : (n : ℕ) (cs : List Claim) → NoneNamed n cs → without n cs ≡ cs
+pub without_none : (n : ℕ) (cs : List Claim) → has_number n cs ≡ false → without_row n cs ≡ cs
 without_none n [] h = refl
-without_none n (c ∷ cs) h = grind (arith, nat_tests, without_none n cs h.1)
+without_none n (c ∷ cs) h = grind (arith, nat_tests, without_none n cs)
 
-without_reordered : (n : ℕ) {xs ys : List Claim} → Reordered xs ys → Reordered (without n xs) (without n ys)
-without_reordered n same = same
-without_reordered n (next {a = a} {xs = xs} {ys = ys} r) = go (eqb (number_of a) n) (without_reordered n r)
-  where
-    go : (b : Bool) → Reordered (without n xs) (without n ys) → Reordered (cond b (without n xs) (a ∷ without n xs)) (cond b (without n ys) (a ∷ without n ys))
-    go true q = q
-    go false q = next q
-without_reordered n (swapped {a = a} {b = b} {xs = xs}) = go (eqb (number_of a) n) (eqb (number_of b) n) (without n xs)
-  where
-    go : (s t : Bool) (zs : List Claim) → Reordered (cond s (cond t zs (b ∷ zs)) (a ∷ cond t zs (b ∷ zs))) (cond t (cond s zs (a ∷ zs)) (b ∷ cond s zs (a ∷ zs)))
-    go true true zs = reordered_refl zs
-    go true false zs = reordered_refl (b ∷ zs)
-    go false true zs = reordered_refl (a ∷ zs)
-    go false false zs = swapped
-without_reordered n (through r q) = through (without_reordered n r) (without_reordered n q)
-
-unspent_new : (table n : ℕ) (hs : List Bears) → unspent table n (record { table = table; row = n } ∷ hs) ≡ true
+unspent_new : (table n : ℕ) (hs : List Bears) → has_unspent table n (record { table = table; row = n } ∷ hs) ≡ true
 unspent_new table n hs = grind (arith, nat_tests)
 
-unspent_more : (table m n : ℕ) → m ≢ n → (hs : List Bears) → unspent table m (record { table = table; row = n } ∷ hs) ≡ unspent table m hs
+unspent_more : (table m n : ℕ) → m ≢ n → (hs : List Bears) → has_unspent table m (record { table = table; row = n } ∷ hs) ≡ has_unspent table m hs
 unspent_more table m n ne hs = grind (arith, nat_tests)
 
 module _ {K : Type 0} (demand : K → Demand) where
@@ -68,7 +52,7 @@ module _ {K : Type 0} {demand : K → Demand} {a : Account} (t : Table K) (agree
   rest = claims_of demand (set (tasks t) p None)
 
   -- the place is written, where no other has a row of the number n
-  written : (b : Account) (n : ℕ) → b.number ≡ a.number → b.room ≡ a.room → ((m : ℕ) → m ≢ n → unspent b.number m b.holds ≡ unspent a.number m a.holds) → NoneNamed n rest → (s : State) (o : Option (Task K)) → StandsAt b s o → Reordered (claims_of demand (set (tasks t) p o)) b.rows → Sound b → Agrees demand b t.number (set t.states p s) (set t.places.now p o)
+  written : (b : Account) (n : ℕ) → b.number ≡ a.number → b.room ≡ a.room → ((m : ℕ) → m ≢ n → has_unspent b.number m b.holds ≡ has_unspent a.number m a.holds) → has_number n rest ≡ false → (s : State) (o : Option (Task K)) → StandsAt b s o → Reordered (claims_of demand (set (tasks t) p o)) b.rows → Sound b → Agrees demand b t.number (set t.states p s) (set t.places.now p o)
   written b n number room still apart s o new rows sound = record {
     number_is = number ∙ agrees.number_is;
     states_are = length-set t.states p s ∙ agrees.states_are;
@@ -98,19 +82,23 @@ module _ {K : Type 0} {demand : K → Demand} {a : Account} (t : Table K) (agree
     split : Reordered a.rows (claim demand u ∷ rest)
     split = through (reordered_back agrees.rows_are) (subst (λ xs. Reordered (claims_of demand xs) (claim demand u ∷ rest)) there (put_in demand (tasks t) p u (let l = length-take 12 t.places.now in let w = used in omega arith)))
 
-    alone : NoneNamed u.row.number rest
-    alone = (numbers_reordered split agrees.sound.numbers).0
+    alone : has_number u.row.number rest ≡ false
+    alone = no_number u.row.number rest (pairs_head (λ c d. number_of c ≢ number_of d) (claim demand u) rest (numbers_reordered split agrees.sound.numbers))
 
     -- it goes out, and leaves these holds
-    row_out : (n : ℕ) → n ≡ u.row.number → (hs : List Bears) → ((m : ℕ) → m ≢ n → unspent a.number m hs ≡ unspent a.number m a.holds) → Sound (record { number = a.number; room = a.room; rows = without n a.rows; holds = hs }) → Agrees demand (record { number = a.number; room = a.room; rows = without n a.rows; holds = hs }) t.number (set t.states p Free) (set t.places.now p None)
+    row_out : (n : ℕ) → n ≡ u.row.number → (hs : List Bears) → ((m : ℕ) → m ≢ n → has_unspent a.number m hs ≡ has_unspent a.number m a.holds) → Sound (record { number = a.number; room = a.room; rows = without_row n a.rows; holds = hs }) → Agrees demand (record { number = a.number; room = a.room; rows = without_row n a.rows; holds = hs }) t.number (set t.states p Free) (set t.places.now p None)
     row_out n is hs still sound =
-        let apart : NoneNamed n rest = subst (λ m. NoneNamed m rest) (sym is) alone in
-        written (record { number = a.number; room = a.room; rows = without n a.rows; holds = hs }) n refl refl still apart Free None tt
-        (reordered_back (subst (Reordered (without n a.rows)) (let out : without n (claim demand u ∷ rest) ≡ without n rest = grind (arith, nat_tests) in out ∙ without_none n rest apart) (without_reordered n split))) sound
+        let apart : has_number n rest ≡ false = rw is alone in
+        written (record { number = a.number; room = a.room; rows = without_row n a.rows; holds = hs }) n refl refl still apart Free None tt
+        (reordered_back (subst (Reordered (without_row n a.rows)) (let out : without_row n (claim demand u ∷ rest) ≡ without_row n rest = grind (arith, nat_tests) in out ∙ without_none n rest apart) (filter_reordered (λ c. not (eqb (number_of c) n)) split))) sound
 
 -- a table after a place was written, by what was written
 put_agrees : {K : Type 0} {demand : K → Demand} {b : Account} {t u : Table K} {p : ℕ} {s : State} {o : Option (Task K)} → PutAt t u p s o → Agrees demand b t.number (set t.states p s) (set t.places.now p o) → AgreesWith demand b u
 put_agrees {demand = demand} {b = b} put agrees = subst₃ (Agrees demand b) (sym put.number) (sym put.states) (sym put.places) agrees
+
+-- and after its state was written
+state_agrees : {K : Type 0} {demand : K → Demand} {b : Account} {t u : Table K} {p : ℕ} {s : State} → StateAt t u p s → Agrees demand b t.number (set t.states p s) t.places.now → AgreesWith demand b u
+state_agrees {demand = demand} {b = b} marked agrees = subst₃ (Agrees demand b) (sym marked.number) (sym marked.states) (sym marked.places) agrees
 
 nothing_stands : {K : Type 0} (a : Account) (o : Option (Task K)) → StandsAt a Free o → o ≡ None
 nothing_stands a o s = grind arith
@@ -124,23 +112,24 @@ module _ {K : Type 0} {demand : K → Demand} {a : Account} (t : Table K) (agree
       let rows : Reordered (claims_of demand (set (tasks t) p None)) a.rows = subst (λ xs. Reordered (claims_of demand xs) a.rows) (sym empty) agrees.rows_are in
       put_agrees put
       (written t agrees p at.0 (with_row a (claim demand task)) n refl refl (λ m ne. unspent_more a.number m n ne a.holds)
-      (named_reordered n (reordered_back rows) (passed a (claim demand task) passes).number) (Held n) (Some task) (refl, unspent_new a.number n a.holds)
+      (number_reordered n rows ∙ (passed a (claim demand task) passes).number) (Held n) (Some task) (refl, unspent_new a.number n a.holds)
       (through (put_in demand (tasks t) p task (let l = length-take 12 t.places.now in let w = at.0 in omega arith)) (next rows))
       (with_row_sound a agrees.sound (claim demand task) lawful passes in_time))
 
   -- the hold of a row that is held here is spent, and the row stays
-  pub row_kept : (h : Hold) (p : ℕ) → h.table ≡ t.number → AtLow t (λ s. s ≡ Held h.row) p → Agrees demand (with_kept a h) t.number (set t.states p (Kept h.row)) t.places.now
-  row_kept h p ours at =
+  pub row_kept : (u : Table K) (h : Hold) (p : ℕ) → h.table ≡ t.number → AtLow t (λ s. s ≡ Held h.row) p → StateAt t u p (Kept h.row) → AgreesWith demand (with_kept a h) u
+  row_kept u h p ours at marked =
       let it = held_at t agrees h.row p at in
       let used : Uses t p = (at.0, within t p it.task it.stands) in
       let is : get_or t.places.now p None ≡ Some it.task = sym (get_or-take 12 t.places.now p None at.0) ∙ it.stands in
       let same_places : set t.places.now p (Some it.task) ≡ t.places.now = subst (λ o. set t.places.now p o ≡ t.places.now) is (set-get_or t.places.now p None) in
       let table : h.table ≡ a.number = ours ∙ sym agrees.number_is in
-      subst (Agrees demand (with_kept a h) t.number (set t.states p (Kept h.row))) same_places
+      state_agrees marked
+      (subst (Agrees demand (with_kept a h) t.number (set t.states p (Kept h.row))) same_places
       (written t agrees p used (with_kept a h) h.row refl refl (λ m ne. others_stay h.table h.row a.number m a.holds ne)
-      (subst (λ m. NoneNamed m (rest t agrees p used)) (sym it.number) (alone t agrees p used it.task it.stands)) (Kept h.row) (Some it.task)
-      (it.number, subst (λ m. unspent m h.row (spent h.table h.row a.holds) ≡ false) table (spent_gone h.table h.row a.holds))
-      (subst (λ xs. Reordered (claims_of demand xs) a.rows) (sym (there t agrees p used it.task it.stands)) agrees.rows_are) (with_kept_sound a agrees.sound h))
+      (rw it.number (alone t agrees p used it.task it.stands)) (Kept h.row) (Some it.task)
+      (it.number, subst (λ m. has_unspent m h.row (without_hold h.table h.row a.holds) ≡ false) table (spent_gone h.table h.row a.holds))
+      (subst (λ xs. Reordered (claims_of demand xs) a.rows) (sym (there t agrees p used it.task it.stands)) agrees.rows_are) (with_kept_sound a agrees.sound h)))
 
   -- the hold of a row that is held here is spent, and the row goes out
   pub row_released : (u : Table K) (h : Hold) (p : ℕ) → h.table ≡ t.number → AtLow t (λ s. s ≡ Held h.row) p → PutAt t u p Free None → AgreesWith demand (with_released a h) u
@@ -148,7 +137,7 @@ module _ {K : Type 0} {demand : K → Demand} {a : Account} (t : Table K) (agree
       let it = held_at t agrees h.row p at in
       let used : Uses t p = (at.0, within t p it.task it.stands) in
       put_agrees put
-      (row_out t agrees p used it.task it.stands h.row it.number (spent h.table h.row a.holds) (λ m ne. others_stay h.table h.row a.number m a.holds ne)
+      (row_out t agrees p used it.task it.stands h.row it.number (without_hold h.table h.row a.holds) (λ m ne. others_stay h.table h.row a.number m a.holds ne)
       (released_sound a agrees.sound h.table h.row (still_ours t agrees h p (ours, (used, at.1)))))
 
   -- a kept row goes out

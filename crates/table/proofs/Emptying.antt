@@ -10,7 +10,7 @@ use Rattle.analysis.specs.Candidates.{claims_of}
 use Rattle.analysis.specs.Ranks.{same}
 use Rattle.table.specs.declared.state.State.{State}
 use Rattle.table.specs.declared.state.State.TheVariants.{Free}
-use Rattle.table.specs.Account.{fresh}
+use Rattle.table.specs.Account.{fresh_account}
 use Rattle.table.specs.Agreement.{StandsAt, Agrees}
 use Rattle.table.specs.Memory.{Emptied}
 use Rattle.table.proofs.Kept.{fresh_sound}
@@ -46,16 +46,16 @@ abbrev pub twelve_free : List State
 twelve_free = Free ∷ Free ∷ Free ∷ Free ∷ Free ∷ Free ∷ Free ∷ Free ∷ Free ∷ Free ∷ Free ∷ Free ∷ []
 
 -- an empty table agrees with a fresh account
-pub fresh_agrees : {K : Type 0} (demand : K → Demand) (number : ℕ) (states : List State) (places : List (Option (Task K))) → length states ≡ 12 → ((i : ℕ) → i < 12 → get_or states i Free ≡ Free) → ((i : ℕ) → i < 12 → get_or places i None ≡ None) → Agrees demand (fresh number (min (length places) 12)) number states places
+pub fresh_agrees : {K : Type 0} (demand : K → Demand) (number : ℕ) (states : List State) (places : List (Option (Task K))) → length states ≡ 12 → ((i : ℕ) → i < 12 → get_or states i Free ≡ Free) → ((i : ℕ) → i < 12 → get_or places i None ≡ None) → Agrees demand (fresh_account number (min (length places) 12)) number states places
 fresh_agrees demand number states places long free empty = record {
   number_is = refl;
   states_are = long;
   room_is = refl;
   rows_are = rw (no_claims demand 12 places empty) same;
-  at_each = λ i l. subst₂ (StandsAt (fresh number (min (length places) 12))) (sym (free i l)) (sym (get_or-take 12 places i None l ∙ empty i l)) tt;
+  at_each = λ i l. subst₂ (StandsAt (fresh_account number (min (length places) 12))) (sym (free i l)) (sym (get_or-take 12 places i None l ∙ empty i l)) tt;
   sound = fresh_sound number (min (length places) 12);
 }
 
 -- so a table over places that were emptied does, and its room is that of the places as they were
-pub emptied_agrees : {K : Type 0} (demand : K → Demand) (number : ℕ) (before after : List (Option (Task K))) → Emptied before after → Agrees demand (fresh number (min (length before) 12)) number twelve_free after
-emptied_agrees demand number before after emptied = subst (λ n. Agrees demand (fresh number (min n 12)) number twelve_free after) emptied.count (fresh_agrees demand number twelve_free after refl (λ i l. get_or-replicate 12 i Free Free l) emptied.empty)
+pub emptied_agrees : {K : Type 0} (demand : K → Demand) (number : ℕ) (before after : List (Option (Task K))) → Emptied before after → Agrees demand (fresh_account number (min (length before) 12)) number twelve_free after
+emptied_agrees demand number before after emptied = subst (λ n. Agrees demand (fresh_account number (min n 12)) number twelve_free after) emptied.count (fresh_agrees demand number twelve_free after refl (λ i l. get_or-replicate 12 i Free Free l) emptied.empty)

@@ -1,11 +1,12 @@
 -- What a table has been through, and what is then true of it. Assumes nothing.
-use Rattle.std.proofs.Common.{◌≡◌, ℕ, zero, suc, ◌<◌, min, true, List, [], ◌∷◌, ◌++◌, length, get_or, take, Some, None, Ok, Err, Option, Result, eqb, sym, refl, ap, ◌∙◌, subst, inl, inr, ◌⊎◌, arith, eqb-true}
+use Rattle.std.proofs.Common.{◌≡◌, ℕ, zero, suc, ◌<◌, min, true, false, List, [], ◌∷◌, ◌++◌, length, get_or, take, Some, None, Ok, Err, Option, Result, eqb, sym, refl, ap, ◌∙◌, subst, inl, inr, ◌⊎◌, arith, eqb-true, not-suc-le-zero}
 use mathlib.Core.Path.{ap₂}
 use Rattle.std.proofs.Math.Logic.{∥∥₁_elim, ∥∥₁_map, ∥∥₁_prop}
-use Rattle.std.specs.Prelude.{◌↔◌}
+use Rattle.std.specs.Prelude.{◌↔◌, ◌≢◌, Contains}
+use Rattle.std.proofs.lemmas.List.Folds.{Any-from_list_any, list_any_at}
 use Rattle.std.specs.Coded.{Coded-set, coded_ℕ}
 use Rattle.std.proofs.lemmas.Bool.Decides.{nat_tests}
-use Rattle.std.proofs.lemmas.Bool.{and_parts, cases_Bool, eq-eqb, or_right}
+use Rattle.std.proofs.lemmas.Bool.{and_parts, cases_Bool, eq-eqb}
 use Rattle.std.proofs.lemmas.List.{get_or-take, length-take}
 use Rattle.demand.specs.Demand.{Demand}
 use Rattle.analysis.specs.declared.Answer.{Answer}
@@ -22,16 +23,16 @@ use Rattle.table.specs.declared.refusals.HoldRefusal.{HoldRefusal}
 use Rattle.table.specs.declared.state.State.{State}
 use Rattle.table.specs.declared.state.State.TheVariants.{Free, Held, Kept}
 use Rattle.table.specs.declared.Table.{Table}
-use Rattle.table.specs.Account.{Account, Bears, BoundOf, BoundsAnswered, bears, fresh, has_number, number_of, unspent}
+use Rattle.table.specs.Account.{Account, Bears, BoundOf, BoundsAnswered, bears, fresh_account, has_number, number_of, has_unspent}
 use Rattle.table.specs.Agreement.{AgreesWith, DistinctNumbers, Sound, StandsAt}
 use Rattle.table.specs.History.{History, HasHistory, HasSomeHistory, Continues, EveryHistory, HasRank, JustBound, Promise, RowAt, StandsHeld, account_of, fresh_of, rows_at}
 use Rattle.table.specs.Runs.{Event, holding, bounding, LateWithoutPlan, Run, Stands, Step, Unspent, after, after_all}
 use Rattle.table.proofs.Kept.{sound as sound_after}
 use Rattle.table.proofs.Lookups.{task_at}
 use Rattle.table.proofs.Members.{standing, held_unspent}
-use Rattle.table.proofs.Parts.{Among, unspent_row}
-use Rattle.table.proofs.Promise.{among_reordered, bound_given, bound_once, late_only, rank_of_row, run_before, same_number, step_after}
-use Rattle.table.proofs.Shared.{all_ranks, length_ranks, length_reordered, needs_grow, none_named_at, number_reordered, numbers_reordered, reordered_back}
+use Rattle.table.proofs.Parts.{first_or_later, is_first, is_later, no_number, pairs_head, pairs_tail, unspent_row}
+use Rattle.table.proofs.Promise.{bound_given, bound_once, late_only, rank_of_row, run_before, same_number, step_after}
+use Rattle.table.proofs.Shared.{all_ranks, contains_reordered, length_ranks, length_reordered, needs_grow, none_named_at, number_reordered, numbers_reordered, reordered_back}
 use Rattle.table.proofs.Spending.{is_held_there}
 
 -- a call that turns each account that agrees with t into one that agrees with u continues each history of t
@@ -42,7 +43,7 @@ continues demand t u e turns es known = ∥∥₁_map known (λ k.
     let is : p.0 ≡ after a e = step_after a p.0 e p.1 in
     let number : t.number ≡ u.number = sym k.agrees.number_is ∙ sym (same_number a e).0 ∙ sym (ap (λ (b : Account). b.number) is) ∙ p.2.number_is in
     let room : min (length t.places.now) 12 ≡ min (length u.places.now) 12 = sym k.agrees.room_is ∙ sym (same_number a e).1 ∙ sym (ap (λ (b : Account). b.room) is) ∙ p.2.room_is in
-    let start : fresh_of t ≡ fresh_of u = ap₂ fresh number room in
+    let start : fresh_of t ≡ fresh_of u = ap₂ fresh_account number room in
     record {
       answered = subst (λ s. Run s (e ∷ es)) start (k.answered, subst (λ b. Step a e b) is p.1);
       agrees = subst (λ s. AgreesWith demand (after_all s (e ∷ es)) u) start (subst (λ b. AgreesWith demand b u) is p.2);
@@ -57,38 +58,34 @@ pub asked : {K : Type 0} (demand : K → Demand) (t : Table K) (n : ℕ) (r : Re
 asked demand t n r answered = continues demand t t (bounding n r) (λ a agrees. (a, (answered a agrees, refl), agrees))
 
 -- a table that was just made
-pub fresh_history : {K : Type 0} (demand : K → Demand) (t : Table K) (n : ℕ) → length t.places.now ≡ n → AgreesWith demand (fresh t.number (min n 12)) t → HasHistory demand [] t
-fresh_history demand t n count agrees = ∣ record { answered = tt; agrees = subst (λ m. AgreesWith demand (fresh t.number (min m 12)) t) (sym count) agrees } ∣₁
+pub fresh_history : {K : Type 0} (demand : K → Demand) (t : Table K) (n : ℕ) → length t.places.now ≡ n → AgreesWith demand (fresh_account t.number (min n 12)) t → HasHistory demand [] t
+fresh_history demand t n count agrees = ∣ record { answered = tt; agrees = subst (λ m. AgreesWith demand (fresh_account t.number (min m 12)) t) (sym count) agrees } ∣₁
 
 -- an unspent hold is among the holds, and one that is among them is unspent
-unspent_among : (table n : ℕ) (hs : List Bears) → unspent table n hs ≡ true → Among (record { table = table; row = n }) hs
-unspent_among table n [] e = cc
-unspent_among table n (h ∷ hs) e = elim (cases_Bool (bears table n h)) [
-  | inl here ↦
-      let both = and_parts (eqb h.table table) (eqb h.row n) here in
-      inl (ap₂ bears_of (eqb-true h.table table both.0) (eqb-true h.row n both.1))
-  | inr other ↦ inr (unspent_among table n hs (rw other at e))
-]
+unspent_among : (table n : ℕ) (hs : List Bears) → has_unspent table n hs ≡ true → Contains hs (record { table = table; row = n })
+unspent_among table n hs e =
+    let found = Any-from_list_any (bears table n) hs e in
+    let h : Bears = found.1 in
+    let both = and_parts (eqb h.table table) (eqb h.row n) found.4 in
+    subst (Contains hs) (ap₂ bears_of (eqb-true h.table table both.0) (eqb-true h.row n both.1)) (found.0, found.2, found.3)
   where
     bears_of : ℕ → ℕ → Bears
     bears_of t r = record { table = t; row = r }
 
-among_unspent : (table n : ℕ) (hs : List Bears) → Among (record { table = table; row = n }) hs → unspent table n hs ≡ true
-among_unspent table n [] m = absurd m
-among_unspent table n (h ∷ hs) (inl e) = rw e (grind (arith, nat_tests))
-among_unspent table n (h ∷ hs) (inr m) = or_right (bears table n h) (unspent table n hs) (among_unspent table n hs m)
+among_unspent : (table n : ℕ) (hs : List Bears) → Contains hs (record { table = table; row = n }) → has_unspent table n hs ≡ true
+among_unspent table n hs m = list_any_at (bears table n) hs m.0 (record { table = table; row = n }) m.1 (rw m.2 (grind (arith, nat_tests)))
 
 module _ {K : Type 0} (demand : K → Demand) where
   abbrev claim : Task K → Claim
   claim u = record { row = u.row; demand = demand u.kind }
 
   -- a task at a place is one of the rows
-  among_claims : (os : List (Option (Task K))) (p : ℕ) (u : Task K) → get_or os p None ≡ Some u → Among (claim u) (claims_of demand os)
+  among_claims : (os : List (Option (Task K))) (p : ℕ) (u : Task K) → get_or os p None ≡ Some u → Contains (claims_of demand os) (claim u)
   among_claims [] p u e = cc
   among_claims (None ∷ os) zero u e = cc
-  among_claims (Some x ∷ os) zero u e = inl (ap claim (let same : x ≡ u = cc in same))
+  among_claims (Some x ∷ os) zero u e = is_first (claims_of demand os) (ap claim (let same : x ≡ u = cc in same))
   among_claims (None ∷ os) (suc p) u e = among_claims os p u e
-  among_claims (Some x ∷ os) (suc p) u e = inr (among_claims os p u e)
+  among_claims (Some x ∷ os) (suc p) u e = is_later (claim x) (claims_of demand os) (among_claims os p u e)
 
   -- a row is the task at a place
   record Found (os : List (Option (Task K))) (P : Task K → Type 0) : Type 0 where
@@ -101,11 +98,13 @@ module _ {K : Type 0} (demand : K → Demand) where
   behind : (o : Option (Task K)) (os : List (Option (Task K))) (P : Task K → Type 0) → Found os P → Found (o ∷ os) P
   behind o os P f = record { place = suc f.place; within = let l = f.within in omega arith; task = f.task; there = f.there; holds = f.holds }
 
-  claim_found : (os : List (Option (Task K))) (c : Claim) → Among c (claims_of demand os) → Found os (λ u. c ≡ claim u)
-  claim_found [] c m = absurd m
+  claim_found : (os : List (Option (Task K))) (c : Claim) → Contains (claims_of demand os) c → Found os (λ u. c ≡ claim u)
+  claim_found [] c m = absurd (not-suc-le-zero m.1)
   claim_found (None ∷ os) c m = behind None os (λ u. c ≡ claim u) (claim_found os c m)
-  claim_found (Some x ∷ os) c (inl e) = record { place = 0; within = omega arith; task = x; there = refl; holds = sym e }
-  claim_found (Some x ∷ os) c (inr m) = behind (Some x) os (λ u. c ≡ claim u) (claim_found os c m)
+  claim_found (Some x ∷ os) c m = elim (first_or_later (claim x) (claims_of demand os) m) [
+    | inl e ↦ record { place = 0; within = omega arith; task = x; there = refl; holds = sym e }
+    | inr later ↦ behind (Some x) os (λ u. c ≡ claim u) (claim_found os c later)
+  ]
 
   number_found : (os : List (Option (Task K))) (n : ℕ) → has_number n (claims_of demand os) ≡ true → Found os (λ u. u.row.number ≡ n)
   number_found [] n e = cc
@@ -116,6 +115,9 @@ module _ {K : Type 0} (demand : K → Demand) where
   ]
 
   -- where no two rows share a number, a number has one place
+  alone : (x : Task K) (os : List (Option (Task K))) → DistinctNumbers (claims_of demand (Some x ∷ os)) → has_number x.row.number (claims_of demand os) ≡ false
+  alone x os d = no_number x.row.number (claims_of demand os) (pairs_head (λ c d. number_of c ≢ number_of d) (claim x) (claims_of demand os) d)
+
   one_place : (os : List (Option (Task K))) → DistinctNumbers (claims_of demand os) → (p q : ℕ) (u v : Task K) → get_or os p None ≡ Some u → get_or os q None ≡ Some v → u.row.number ≡ v.row.number → p ≡ q
   one_place [] d p q u v e f same = cc
   one_place (None ∷ os) d zero q u v e f same = cc
@@ -124,11 +126,11 @@ module _ {K : Type 0} (demand : K → Demand) where
   one_place (Some x ∷ os) d zero zero u v e f same = refl
   one_place (Some x ∷ os) d zero (suc q) u v e f same =
       let is : x ≡ u = cc in
-      absurd (none_named_at demand x.row.number os q v d.0 f (sym same ∙ sym (ap (λ (t : Task K). t.row.number) is)))
+      absurd (none_named_at demand x.row.number os q v (alone x os d) f (sym same ∙ sym (ap (λ (t : Task K). t.row.number) is)))
   one_place (Some x ∷ os) d (suc p) zero u v e f same =
       let is : x ≡ v = cc in
-      absurd (none_named_at demand x.row.number os p u d.0 e (same ∙ sym (ap (λ (t : Task K). t.row.number) is)))
-  one_place (Some x ∷ os) d (suc p) (suc q) u v e f same = ap suc (one_place os d.1 p q u v e f same)
+      absurd (none_named_at demand x.row.number os p u (alone x os d) e (same ∙ sym (ap (λ (t : Task K). t.row.number) is)))
+  one_place (Some x ∷ os) d (suc p) (suc q) u v e f same = ap suc (one_place os (pairs_tail (λ c d. number_of c ≢ number_of d) (claim x) (claims_of demand os) d) p q u v e f same)
 
 -- a row at a place is held while its hold is unspent, else kept
 module _ {K : Type 0} (a : Account) (u : Task K) where
@@ -137,9 +139,9 @@ module _ {K : Type 0} (a : Account) (u : Task K) where
   held_or_kept (Held n) s = inl (ap Held s.0)
   held_or_kept (Kept n) s = inr (ap Kept s.0)
 
-  held_unspent_there : (n : ℕ) (s : State) → s ≡ Held n → StandsAt a s (Some u) → unspent a.number n a.holds ≡ true
+  held_unspent_there : (n : ℕ) (s : State) → s ≡ Held n → StandsAt a s (Some u) → has_unspent a.number n a.holds ≡ true
   held_unspent_there n Free e s = absurd s
-  held_unspent_there n (Held m) e s = let same : m ≡ n = cc in subst (λ k. unspent a.number k a.holds ≡ true) same s.1
+  held_unspent_there n (Held m) e s = let same : m ≡ n = cc in subst (λ k. has_unspent a.number k a.holds ≡ true) same s.1
   held_unspent_there n (Kept m) e s = cc
 
 module _ {K : Type 0} (demand : K → Demand) (es : List Event) (t : Table K) (h : History demand es t) where
@@ -168,8 +170,8 @@ module _ {K : Type 0} (demand : K → Demand) (es : List Event) (t : Table K) (h
       let low : f.place < 12 = let l = f.within in let all = length-take 12 t.places.now in omega arith in
       record { used = low; task = f.task; there = sym (get_or-take 12 t.places.now f.place None low) ∙ f.there; row = refl }
 
-  among_rows : (p : ℕ) (c : Claim) → RowAt demand t p c → Among c (rows_at demand t)
-  among_rows p c r = subst (λ x. Among x (rows_at demand t)) (sym r.row) (among_claims demand (take 12 t.places.now) p r.task (task_there p c r))
+  among_rows : (p : ℕ) (c : Claim) → RowAt demand t p c → Contains (rows_at demand t) c
+  among_rows p c r = subst (Contains (rows_at demand t)) (sym r.row) (among_claims demand (take 12 t.places.now) p r.task (task_there p c r))
 
   number_is : (p : ℕ) (c : Claim) (r : RowAt demand t p c) → number_of c ≡ r.task.row.number
   number_is p c r = ap number_of r.row
@@ -221,9 +223,9 @@ module _ {K : Type 0} (demand : K → Demand) (es : List Event) (t : Table K) (h
   rows_stand : (c : Claim) → ((p : ℕ) × RowAt demand t p c) ↔ Stands c es
   rows_stand c =
       let same = standing t.number (min (length t.places.now) 12) c es h.answered in (
-        λ x. same.0 (among_reordered c h.agrees.rows_are (among_rows x.0 c x.1)),
+        λ x. same.0 (contains_reordered c h.agrees.rows_are (among_rows x.0 c x.1)),
         λ s.
-            let f = claim_found demand (take 12 t.places.now) c (among_reordered c (reordered_back h.agrees.rows_are) (same.1 s)) in
+            let f = claim_found demand (take 12 t.places.now) c (contains_reordered c (reordered_back h.agrees.rows_are) (same.1 s)) in
             (f.place, subst (RowAt demand t f.place) (sym f.holds) (found_at (λ u. c ≡ claim demand u) f)),
       )
 

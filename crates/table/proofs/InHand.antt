@@ -2,7 +2,6 @@
 use Rattle.std.specs.List.{list_any}
 use Rattle.std.proofs.Common.{◌≡◌, ℕ, zero, suc, ◌<◌, inl, inr, get_or, length, true, false, eqb, List, [], ◌∷◌, IfErr, IfOk, IsOk, Ok, Err, Result, ap, ◌∙◌, sym, subst, refl, arith}
 use Rattle.std.proofs.Math.Logic.{∥∥₁_elim, ∥∥₁_map}
-use Rattle.std.proofs.lemmas.Bool.Decides.{nat_tests}
 use Rattle.std.proofs.lemmas.Bool.{cases_Bool, and_from, both_ways, eq-eqb, or_left, eqb-true, or_right}
 use Rattle.std.specs.Coded.{Coded-set, coded_bool, coded_ℕ}
 use Rattle.analysis.specs.declared.judgement.JudgeRefusal.{JudgeRefusal}
@@ -16,8 +15,8 @@ use Rattle.table.specs.declared.refusals.SpendRefusal.{SpendRefusal}
 use Rattle.table.specs.declared.refusals.SpendRefusal.TheVariants.{NotHeld}
 use Rattle.table.specs.declared.Table.{Table}
 use Rattle.table.specs.declared.refusals.WithdrawRefusal.{WithdrawRefusal}
-use Rattle.table.specs.Account.{Accepted, Account, Bears, Holds, Spends, Withdraws, bears, has_number, number_of, unspent, with_row}
-use Rattle.table.specs.Agreement.{AgreesWith, NoneNamed}
+use Rattle.table.specs.Account.{Accepted, Account, Bears, Holds, Spends, Withdraws, bears, has_number, number_of, has_unspent, with_row}
+use Rattle.table.specs.Agreement.{AgreesWith}
 use Rattle.table.specs.History.{Continues, HasSomeHistory, account_of}
 use Rattle.table.specs.Places.{has_held, is_held, HeldHere}
 use Rattle.table.specs.Runs.{keeping, releasing}
@@ -38,7 +37,7 @@ module _ {K : Type 0} (demand : K → Demand) (t : Table K) where
   pub record Holding (h : Hold) : Type 0 where
     pub account : Account
     pub agrees : AgreesWith demand account t
-    pub unspent_yet : unspent h.table h.row account.holds ≡ true
+    pub unspent_yet : has_unspent h.table h.row account.holds ≡ true
 
   -- that some account agrees, and nothing of which one
   abbrev pub IsAccounted : Type 0
@@ -61,9 +60,8 @@ bears_of h = record { table = h.table; row = h.row }
 pub same_numbers : (g h : Hold) → g.table ≡ h.table → g.row ≡ h.row → g ≡ h
 same_numbers g h table row = ap (λ n. hold_of n g.row) table ∙ ap (hold_of h.table) row
 
-pub none_has : (n : ℕ) (cs : List Claim) → NoneNamed n cs → has_number n cs ≡ true → ⊥
-none_has n [] none e = cc
-none_has n (c ∷ cs) none e = grind (arith, nat_tests, none_has n cs none.1)
+pub none_has : (n : ℕ) (cs : List Claim) → has_number n cs ≡ false → has_number n cs ≡ true → ⊥
+none_has n cs none e = both_ways (has_number n cs) none e
 
 -- a hold that was accepted bears the two numbers that the account has of it
 pub given_bears : (a : Account) (c : Claim) (h : Hold) → Accepted a c h → bears h.table h.row (record { table = a.number; row = number_of c }) ≡ true
@@ -72,9 +70,9 @@ given_bears a c h accepted =
     (eq-eqb a.number h.table (sym accepted.table))
     (eq-eqb (number_of c) h.row (sym accepted.row))
 
-given : (a : Account) (c : Claim) (h : Hold) → Accepted a c h → unspent h.table h.row (with_row a c).holds ≡ true
+given : (a : Account) (c : Claim) (h : Hold) → Accepted a c h → has_unspent h.table h.row (with_row a c).holds ≡ true
 given a c h accepted =
-    or_left (bears h.table h.row (record { table = a.number; row = number_of c })) (unspent h.table h.row a.holds) (given_bears a c h accepted)
+    or_left (bears h.table h.row (record { table = a.number; row = number_of c })) (has_unspent h.table h.row a.holds) (given_bears a c h accepted)
 
 pub same_holds : (a b : Account) (n : ℕ) (r : Result (Unit {0}) WithdrawRefusal) → Withdraws a n r b → b.holds ≡ a.holds
 same_holds a b n (Ok u) w = ap (λ (x : Account). x.holds) w.1
@@ -118,7 +116,7 @@ module _ {K : Type 0} (demand : K → Demand) (t u : Table K) where
         record {
           account = p.0;
           agrees = p.2;
-          unspent_yet = ap (λ (x : Account). unspent h.table h.row x.holds) p.1.1 ∙ given k.account c h p.1.0;
+          unspent_yet = ap (λ (x : Account). has_unspent h.table h.row x.holds) p.1.1 ∙ given k.account c h p.1.0;
         })
     taken (Err e) f known = tt
 
@@ -128,7 +126,7 @@ module _ {K : Type 0} (demand : K → Demand) (t u : Table K) where
     pub not_refused : (r : Result (Unit {0}) SpendRefusal) → Turns (λ a b. Spends a h (after a) r b) → IsHolding demand t h → IsOk r
     not_refused (Ok x) f known = refl
     not_refused (Err (NotHeld back)) f known =
-        ∥∥₁_elim known (Coded-set coded_bool _ _) (λ k. absurd (both_ways _ (is_not_unspent (unspent h.table h.row k.account.holds) (f k.account k.agrees).1.0) k.unspent_yet))
+        ∥∥₁_elim known (Coded-set coded_bool _ _) (λ k. absurd (both_ways _ (is_not_unspent (has_unspent h.table h.row k.account.holds) (f k.account k.agrees).1.0) k.unspent_yet))
 
     -- what a refusal hands back is the hold that was passed
     pub same_hold : (r : Result (Unit {0}) SpendRefusal) → Turns (λ a b. Spends a h (after a) r b) → IsAccounted demand t → IfErr r (λ e. e ≡ NotHeld h)
@@ -146,7 +144,7 @@ answers_all demand t r f known =
 
 module _ {K : Type 0} {demand : K → Demand} {a : Account} (t : Table K) (agrees : AgreesWith demand a t) where
   -- a row stands as held exactly where its hold is unspent
-  pub has_held_is : (n : ℕ) → has_held t n ≡ unspent t.number n a.holds
+  pub has_held_is : (n : ℕ) → has_held t n ≡ has_unspent t.number n a.holds
   has_held_is n = elim (cases_Bool (has_held t n)) [
     | inl there ↦
         let at = held_place t.states n there in
@@ -161,9 +159,9 @@ module _ {K : Type 0} {demand : K → Demand} {a : Account} (t : Table K) (agree
           (refl, ((low, within t p it.task it.stands), e))
 
 -- a hold that no account has unspent is refused, and nothing changes
-module _ {K : Type 0} (demand : K → Demand) (t : Table K) (h : Hold) (spent_yet : (a : Account) → AgreesWith demand a t → unspent h.table h.row a.holds ≡ false) where
+module _ {K : Type 0} (demand : K → Demand) (t : Table K) (h : Hold) (spent_yet : (a : Account) → AgreesWith demand a t → has_unspent h.table h.row a.holds ≡ false) where
   pub keep_refused : Continues demand (keeping h (Err (NotHeld h))) t t
-  keep_refused = continues demand t t (keeping h (Err (NotHeld h))) (λ a agrees. (a, (spent_applies (unspent h.table h.row a.holds) (spent_yet a agrees), refl, refl), agrees))
+  keep_refused = continues demand t t (keeping h (Err (NotHeld h))) (λ a agrees. (a, (spent_applies (has_unspent h.table h.row a.holds) (spent_yet a agrees), refl, refl), agrees))
 
   pub release_refused : Continues demand (releasing h (Err (NotHeld h))) t t
-  release_refused = continues demand t t (releasing h (Err (NotHeld h))) (λ a agrees. (a, (spent_applies (unspent h.table h.row a.holds) (spent_yet a agrees), refl, refl), agrees))
+  release_refused = continues demand t t (releasing h (Err (NotHeld h))) (λ a agrees. (a, (spent_applies (has_unspent h.table h.row a.holds) (spent_yet a agrees), refl, refl), agrees))

@@ -1,27 +1,26 @@
 -- What a look into the table says of the account. Assumes nothing.
 use Rattle.std.proofs.Common.{MatchOption, ◌≡◌, ℕ, suc, ◌+◌, ◌<◌, ◌≤◌, Bool, true, false, cond, not, ◌||◌, eqb, leb, ltb, List, [], ◌∷◌, length, get_or, take, is_some, Some, None, Option, sym, refl, ap, ◌∙◌, subst, arith, lt-ltb}
-use Rattle.std.specs.List.{filter, flat_map, find, list_any}
+use Rattle.std.specs.List.{filter, flat_map, list_any}
 use native.Mathlib.Decide.{dec_lt}
 use denote.Ref.{Bor}
 use Rattle.std.specs.declared.option.Iter.{OptionIter}
 use Rattle.std.specs.Iterator.Adapters.{option_iter_done, option_iter_item, option_iter_steps}
 use Rattle.std.proofs.lemmas.Iterator.{YieldsList}
 use Rattle.std.proofs.lemmas.Iterator.Consumers.{YieldsList-from_shown}
-use Rattle.std.specs.Option.{is_none, option_map, option_to_list}
+use Rattle.std.specs.Option.{is_none, option_to_list}
 use Rattle.std.proofs.lemmas.List.{length-take, get_or_past}
-use Rattle.std.proofs.lemmas.List.Recursion.{or_is, same_from_clauses}
+use Rattle.std.proofs.lemmas.List.Recursion.{or_is}
 use Rattle.std.proofs.lemmas.Bool.{both_ways, false_from_ne_true}
 use Rattle.std.proofs.lemmas.Bool.Decides.{nat_tests}
 use Rattle.demand.specs.Demand.{Demand}
-use Rattle.analysis.specs.declared.Answer.{Answer}
 use Rattle.analysis.specs.declared.Task.{Task}
 use Rattle.analysis.specs.Candidates.{claims_of}
 use Rattle.table.specs.declared.state.State.{State}
 use Rattle.table.specs.declared.state.State.TheVariants.{Free}
 use Rattle.table.specs.declared.Table.{Table}
-use Rattle.table.specs.Account.{Account, any_above, has_number, has_priority}
+use Rattle.table.specs.Account.{Account, has_number, has_priority}
 use Rattle.table.specs.Agreement.{AgreesWith, StandsAt}
-use Rattle.table.specs.Places.{names, answer_of, At, PlaceWhere}
+use Rattle.table.specs.Places.{names, At, PlaceWhere}
 use Rattle.table.proofs.Shared.{length_reordered, number_reordered, priority_reordered}
 
 -- the tasks at the places that a table uses
@@ -53,14 +52,6 @@ within t p u e = elim (dec_lt p (length (tasks t))) [
   | yes l ↦ omega (arith, length-take 12 t.places.now)
   | no l ↦ let past = get_or_past (tasks t) p None (omega arith) in cc
 ]
-
--- what `any` and `find` answer, in the words of the definitions
-pub any_above_is : (own : ℕ) (ns : List ℕ) → list_any (ltb own) ns ≡ any_above own ns
-any_above_is own = same_from_clauses (list_any (ltb own)) (any_above own) (λ n b. ltb own n || b) refl (λ _ _. refl) (λ _ _. refl)
-
-pub answer_is : (n : ℕ) (answers : List Answer) → option_map (λ (a : Answer). (a.bound, a.vector)) (find (λ (a : Answer). eqb a.number n) answers) ≡ answer_of n answers
-answer_is n [] = refl
-answer_is n (a ∷ rest) = grind (arith, answer_is n rest)
 
 -- the task at a place has the number n
 abbrev pub named : {K : Type 0} → ℕ → Option (Task K) → Bool
@@ -154,7 +145,7 @@ module _ {K : Type 0} {demand : K → Demand} {a : Account} (t : Table K) (agree
 
 -- what a place gives where its tasks are gone through: its task, if it has one
 pub given_at : {A : Type 0} (s : OptionIter A) (o : Option A) → option_iter_item s ≡ o → option_iter_done s ≡ false → YieldsList option_iter_steps (λ x. x.now) s (option_to_list o)
-given_at {A} s o item fresh = subst (YieldsList option_iter_steps (λ x. x.now) s) (ap left_of fresh ∙ ap option_to_list item) (YieldsList-from_shown option_iter_steps (λ x. x.now) left none some s)
+given_at {A} s o item unread = subst (YieldsList option_iter_steps (λ x. x.now) s) (ap left_of unread ∙ ap option_to_list item) (YieldsList-from_shown option_iter_steps (λ x. x.now) left none some s)
   where
     left_of : Bool → List A
     left_of b = cond b [] (option_to_list (option_iter_item s))

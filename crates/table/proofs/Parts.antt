@@ -1,36 +1,63 @@
 -- Rows and holds that are taken out of a list, by their numbers. Assumes nothing.
-use Rattle.std.proofs.Common.{◌≡◌, ℕ, true, false, eqb, ◌≢◌, ◌⊎◌, List, [], ◌∷◌, sym, refl, ap, ◌∙◌, subst, arith}
+use Rattle.std.proofs.Common.{◌≡◌, ◌<◌, ℕ, zero, suc, true, false, not, eqb, ◌≢◌, ◌⊎◌, inl, inr, Bool, List, [], ◌∷◌, length, get_or, sym, refl, ap, ◌∙◌, subst, arith}
+use Rattle.std.specs.Prelude.{All, AllPairs, Contains}
+use Rattle.std.specs.List.{filter, list_any}
+use Rattle.std.proofs.lemmas.List.Elements.{Contains-append_cases, All-contains, All-contains_itself, All-filter, All-head, All-tail, All-weaker, filter_passes}
+use Rattle.std.proofs.lemmas.List.Folds.{Any-from_list_any, list_any_at, list_any_none}
+use Rattle.std.proofs.lemmas.List.Sorted.{Contains-permutation, IsPermutation-filter_both}
 use Rattle.std.proofs.lemmas.Bool.Decides.{nat_tests}
-use Rattle.std.proofs.lemmas.Bool.{cond_both}
+use Rattle.std.proofs.lemmas.Bool.{and_parts, both_ways, cond_both, eq-eqb, eqb-true, false_from_ne_true, not-true, or_right}
 use Rattle.demand.specs.Demand.{Lawful}
 use Rattle.analysis.specs.Ranks.{Claim, NoneAt, DistinctPriorities}
 use Rattle.analysis.specs.Removal.{SomeOf, none, keep, leave}
 use Rattle.analysis.proofs.Lawful.{AllLawful}
-use Rattle.table.specs.Account.{Bears, bears, number_of, has_number, has_priority, unspent, held, spent, without}
-use Rattle.table.specs.Agreement.{NoneNamed, DistinctNumbers, LawfulRows, OwnHolds}
+use Rattle.table.specs.Account.{Bears, bears, number_of, has_number, has_priority, has_unspent, has_hold_on, without_hold, without_row}
+use Rattle.table.specs.Agreement.{LawfulRows, OwnHolds}
 
--- x is one of these
-abbrev pub Among : {A : Type 0} → A → List A → Type 0
-Among x [] = ⊥
-Among x (y ∷ ys) = (y ≡ x) ⊎ Among x ys
+-- lists of anything
+module _ {A : Type 0} where
+  pub pairs_head : (R : A → A → Type 0) (x : A) (xs : List A) → AllPairs R (x ∷ xs) → All (R x) xs
+  pairs_head R x xs p k d l = p zero (suc k) d (omega arith) (omega arith)
+
+  pub pairs_tail : (R : A → A → Type 0) (x : A) (xs : List A) → AllPairs R (x ∷ xs) → AllPairs R xs
+  pairs_tail R x xs p i j d l m = p (suc i) (suc j) d (omega arith) (omega arith)
+
+  pub is_first : {x y : A} (ys : List A) → y ≡ x → Contains (y ∷ ys) x
+  is_first ys e = (0, omega arith, e)
+
+  pub is_later : {x : A} (y : A) (ys : List A) → Contains ys x → Contains (y ∷ ys) x
+  is_later y ys m = (suc m.0, omega (arith, m.1), m.2)
+
+  pub first_or_later : {x : A} (y : A) (ys : List A) → Contains (y ∷ ys) x → (y ≡ x) ⊎ Contains ys x
+  first_or_later {x = x} y ys m = go m.0 m.1 m.2
+    where
+      go : (k : ℕ) → k < length (y ∷ ys) → get_or (y ∷ ys) k x ≡ x → (y ≡ x) ⊎ Contains ys x
+      go zero l e = inl e
+      go (suc k) l e = inr (k, omega arith, e)
+
+  -- where no element passes a test, each fails it
+  pub none_passes : (test : A → Bool) (xs : List A) → list_any test xs ≡ false → All (λ x. test x ≡ false) xs
+  none_passes test xs e k d l = false_from_ne_true (test (get_or xs k d)) (λ q. both_ways (list_any test xs) e (list_any_at test xs k d l q))
+
+  -- what a filter keeps was there, and passes; and what was there and passes is kept
+  pub was_kept : (test : A → Bool) (x : A) (xs : List A) → Contains (filter test xs) x → Contains xs x × (test x ≡ true)
+  was_kept test x xs m = (
+    All-contains (Contains xs) (filter test xs) x (All-filter test (Contains xs) xs (All-contains_itself xs)) m,
+    All-contains (λ y. test y ≡ true) (filter test xs) x (filter_passes test xs) m,
+  )
+
+  pub is_kept : (test : A → Bool) (x : A) (xs : List A) → test x ≡ true → Contains xs x → Contains (filter test xs) x
+  is_kept test x xs passes m = elim (Contains-append_cases (filter test xs) (filter (λ y. not (test y)) xs) x (Contains-permutation xs _ x (IsPermutation-filter_both test (λ y. not (test y)) (λ _. refl) xs) m)) [
+    | inl here ↦ here
+    | inr other ↦ absurd (both_ways (test x) (not-true (test x) (All-contains (λ y. not (test y) ≡ true) (filter (λ y. not (test y)) xs) x (filter_passes (λ y. not (test y)) xs) other)) passes)
+  ]
 
 -- the rows that are left are some of the rows
-pub without_some : (n : ℕ) (cs : List Claim) → SomeOf ◌≡◌ (without n cs) cs
+pub without_some : (n : ℕ) (cs : List Claim) → SomeOf ◌≡◌ (without_row n cs) cs
 without_some n [] = none
 without_some n (c ∷ cs) =
     let rest = without_some n cs in
-    cond_both (eqb (number_of c) n) (without n cs) (c ∷ without n cs) (λ xs. SomeOf ◌≡◌ xs (c ∷ cs)) (λ _. leave rest) (λ _. keep refl rest)
-
-none_named_kept : (n : ℕ) {xs ys : List Claim} → SomeOf ◌≡◌ xs ys → NoneNamed n ys → NoneNamed n xs
-none_named_kept n none h = tt
-none_named_kept n (keep e s) h = (λ q. h.0 (ap number_of (sym e) ∙ q), none_named_kept n s h.1)
-none_named_kept n (leave s) h = none_named_kept n s h.1
-
-pub numbers_kept : {xs ys : List Claim} → SomeOf ◌≡◌ xs ys → DistinctNumbers ys → DistinctNumbers xs
-numbers_kept none d = tt
-numbers_kept (keep {a = a} {b = b} {xs = xs} e s) d =
-    (subst (λ (m : ℕ). NoneNamed m xs) (sym (ap number_of e)) (none_named_kept (number_of b) s d.0), numbers_kept s d.1)
-numbers_kept (leave s) d = numbers_kept s d.1
+    cond_both (not (eqb (number_of c) n)) (c ∷ without_row n cs) (without_row n cs) (λ xs. SomeOf ◌≡◌ xs (c ∷ cs)) (λ _. keep refl rest) (λ _. leave rest)
 
 none_at_kept : (p : ℕ) {xs ys : List Claim} → SomeOf ◌≡◌ xs ys → NoneAt p ys → NoneAt p xs
 none_at_kept p none h = tt
@@ -43,85 +70,82 @@ priorities_kept (keep {a = a} {b = b} {xs = xs} e s) d =
     (subst (λ (m : ℕ). NoneAt m xs) (sym (ap (λ (c : Claim). c.row.priority) e)) (none_at_kept b.row.priority s d.0), priorities_kept s d.1)
 priorities_kept (leave s) d = priorities_kept s d.1
 
-pub lawful_kept : {xs ys : List Claim} → SomeOf ◌≡◌ xs ys → LawfulRows ys → LawfulRows xs
-lawful_kept none h = tt
-lawful_kept (keep e s) h = (subst (λ (c : Claim). Lawful c.demand) (sym e) h.0, lawful_kept s h.1)
-lawful_kept (leave s) h = lawful_kept s h.1
-
 pub all_lawful : (cs : List Claim) → LawfulRows cs → AllLawful cs
 all_lawful [] h = tt
-all_lawful (c ∷ cs) h = (h.0, all_lawful cs h.1)
-
-pub none_named : (n : ℕ) (cs : List Claim) → has_number n cs ≡ false → NoneNamed n cs
-none_named n [] e = tt
-none_named n (c ∷ cs) e = grind (arith, nat_tests, none_named n cs)
+all_lawful (c ∷ cs) h = (All-head (λ d. Lawful d.demand) c cs h, all_lawful cs (All-tail (λ d. Lawful d.demand) c cs h))
 
 pub none_at : (p : ℕ) (cs : List Claim) → has_priority p cs ≡ false → NoneAt p cs
 none_at p [] e = tt
 none_at p (c ∷ cs) e = grind (arith, nat_tests, none_at p cs)
 
+-- a number that no row has is none of theirs
+pub other_numbers : (n : ℕ) (cs : List Claim) → has_number n cs ≡ false → All (λ c. n ≢ number_of c) cs
+other_numbers n cs e k d l q = both_ways (eqb (number_of (get_or cs k d)) n) (none_passes (λ c. eqb (number_of c) n) cs e k d l) (eq-eqb (number_of (get_or cs k d)) n (sym q))
+
+-- and one that is none of theirs no row has
+pub no_number : (n : ℕ) (cs : List Claim) → All (λ c. n ≢ number_of c) cs → has_number n cs ≡ false
+no_number n cs others = list_any_none (λ c. eqb (number_of c) n) cs (λ k d l. false_from_ne_true (eqb (number_of (get_or cs k d)) n) (λ q. others k d l (sym (eqb-true (number_of (get_or cs k d)) n q))))
+
 -- the row of another number is still there
-has_still : (m n : ℕ) → m ≢ n → (cs : List Claim) → has_number m (without n cs) ≡ has_number m cs
+has_still : (m n : ℕ) → m ≢ n → (cs : List Claim) → has_number m (without_row n cs) ≡ has_number m cs
 has_still m n ne [] = refl
 has_still m n ne (c ∷ cs) = grind (arith, nat_tests, has_still m n ne cs)
 
 -- a hold of other numbers is as before, once a hold is spent
-pub other_stays : (table n : ℕ) (x : Bears) (hs : List Bears) → bears table n x ≡ false → unspent x.table x.row (spent table n hs) ≡ unspent x.table x.row hs
+pub other_stays : (table n : ℕ) (x : Bears) (hs : List Bears) → bears table n x ≡ false → has_unspent x.table x.row (without_hold table n hs) ≡ has_unspent x.table x.row hs
 other_stays table n x [] e = refl
 other_stays table n x (h ∷ hs) e = grind (arith, nat_tests, other_stays table n x hs e)
 
 -- and so is a hold of another row
-pub others_stay : (table n other m : ℕ) (hs : List Bears) → m ≢ n → unspent other m (spent table n hs) ≡ unspent other m hs
+pub others_stay : (table n other m : ℕ) (hs : List Bears) → m ≢ n → has_unspent other m (without_hold table n hs) ≡ has_unspent other m hs
 others_stay table n other m hs ne = other_stays table n (record { table = other; row = m }) hs (grind (arith, nat_tests))
 
 module _ (table : ℕ) (cs : List Claim) where
-  pub own_more : (c : Claim) (hs : List Bears) → OwnHolds table cs hs → OwnHolds table (c ∷ cs) hs
-  own_more c [] o = tt
-  own_more c (h ∷ hs) o = grind (arith, nat_tests, own_more c hs o.1)
+  abbrev Own : List Claim → Bears → Type 0
+  Own rows h = (h.table ≡ table) × (has_number h.row rows ≡ true)
 
-  pub own_spent : (t n : ℕ) (hs : List Bears) → OwnHolds table cs hs → OwnHolds table cs (spent t n hs)
-  own_spent t n [] o = tt
-  own_spent t n (h ∷ hs) o = grind (arith, nat_tests, own_spent t n hs o.1)
+  pub own_more : (c : Claim) (hs : List Bears) → OwnHolds table cs hs → OwnHolds table (c ∷ cs) hs
+  own_more c hs o = All-weaker (Own cs) (Own (c ∷ cs)) (λ h p. (p.0, or_right (eqb (number_of c) h.row) (has_number h.row cs) p.1)) hs o
 
   -- a row goes out that no hold bears
-  pub own_without : (n : ℕ) (hs : List Bears) → held n hs ≡ false → OwnHolds table cs hs → OwnHolds table (without n cs) hs
-  own_without n [] e o = tt
-  own_without n (h ∷ hs) e o = grind (arith, nat_tests, has_still h.row n, own_without n hs)
+  pub own_without : (n : ℕ) (hs : List Bears) → has_hold_on n hs ≡ false → OwnHolds table cs hs → OwnHolds table (without_row n cs) hs
+  own_without n hs e o k d l =
+      let other = none_passes (λ (h : Bears). eqb h.row n) hs e k d l in
+      ((o k d l).0, has_still (get_or hs k d).row n (λ q. both_ways (eqb (get_or hs k d).row n) other (eq-eqb (get_or hs k d).row n q)) cs ∙ (o k d l).1)
 
   -- a row goes out with its hold
-  pub own_released : (t n : ℕ) → t ≡ table → (hs : List Bears) → OwnHolds table cs hs → OwnHolds table (without n cs) (spent t n hs)
-  own_released t n e [] o = tt
-  own_released t n e (h ∷ hs) o = grind (arith, nat_tests, has_still h.row n, own_released t n e hs o.1)
+  pub own_released : (t n : ℕ) → t ≡ table → (hs : List Bears) → OwnHolds table cs hs → OwnHolds table (without_row n cs) (without_hold t n hs)
+  own_released t n e hs o k d l =
+      let h : Bears = get_or (without_hold t n hs) k d in
+      let own = All-filter (λ h. not (bears t n h)) (Own cs) hs o k d l in
+      let left = not-true (bears t n h) (filter_passes (λ h. not (bears t n h)) hs k d l) in
+      (own.0, has_still h.row n (λ q. both_ways (bears t n h) left (grind (arith, nat_tests, own.0))) cs ∙ own.1)
 
-  -- an unspent hold is of this table
-  pub unspent_own : (t n : ℕ) (hs : List Bears) → OwnHolds table cs hs → unspent t n hs ≡ true → t ≡ table
-  unspent_own t n [] o e = cc
-  unspent_own t n (h ∷ hs) o e = grind (arith, nat_tests, unspent_own t n hs o.1)
+  -- an unspent hold is of this table, and its row is among the rows
+  pub unspent_of : (t n : ℕ) (hs : List Bears) → OwnHolds table cs hs → has_unspent t n hs ≡ true → (t ≡ table) × (has_number n cs ≡ true)
+  unspent_of t n hs o e =
+      let found = Any-from_list_any (bears t n) hs e in
+      let h : Bears = found.1 in
+      let own : Own cs h = subst (Own cs) found.3 (o found.0 h found.2) in
+      let numbers = and_parts (eqb h.table t) (eqb h.row n) found.4 in
+      (sym (eqb-true h.table t numbers.0) ∙ own.0, subst (λ (m : ℕ). has_number m cs ≡ true) (eqb-true h.row n numbers.1) own.1)
 
-  -- and its row is among the rows
-  pub unspent_row : (t n : ℕ) (hs : List Bears) → OwnHolds table cs hs → unspent t n hs ≡ true → has_number n cs ≡ true
-  unspent_row t n [] o e = cc
-  unspent_row t n (h ∷ hs) o e = grind (arith, nat_tests, unspent_row t n hs o.1)
+  pub unspent_own : (t n : ℕ) (hs : List Bears) → OwnHolds table cs hs → has_unspent t n hs ≡ true → t ≡ table
+  unspent_own t n hs o e = (unspent_of t n hs o e).0
+
+  pub unspent_row : (t n : ℕ) (hs : List Bears) → OwnHolds table cs hs → has_unspent t n hs ≡ true → has_number n cs ≡ true
+  unspent_row t n hs o e = (unspent_of t n hs o e).1
 
 -- a row that is left was there, and has another number
-pub was_there : (c : Claim) (n : ℕ) (cs : List Claim) → Among c (without n cs) → Among c cs × (number_of c ≢ n)
-was_there c n [] m = absurd m
-was_there c n (d ∷ cs) m = grind (arith, nat_tests, was_there c n cs)
+pub was_there : (c : Claim) (n : ℕ) (cs : List Claim) → Contains (without_row n cs) c → Contains cs c × (number_of c ≢ n)
+was_there c n cs m = let was = was_kept (λ d. not (eqb (number_of d) n)) c cs m in (was.0, grind (arith, nat_tests, was.1))
 
-pub stays_there : (c : Claim) (n : ℕ) (cs : List Claim) → number_of c ≢ n → Among c cs → Among c (without n cs)
-stays_there c n [] ne m = absurd m
-stays_there c n (d ∷ cs) ne m = grind (arith, nat_tests, stays_there c n cs ne)
+pub stays_there : (c : Claim) (n : ℕ) (cs : List Claim) → number_of c ≢ n → Contains cs c → Contains (without_row n cs) c
+stays_there c n cs ne m = is_kept (λ d. not (eqb (number_of d) n)) c cs (grind (arith, nat_tests)) m
 
 -- a hold that is left was unspent, and bears another row
-pub was_unspent : (x : Bears) (t n : ℕ) (hs : List Bears) → x.table ≡ t → Among x (spent t n hs) → Among x hs × (x.row ≢ n)
-was_unspent x t n [] own m = absurd m
-was_unspent x t n (h ∷ hs) own m = grind (arith, nat_tests, was_unspent x t n hs own)
+pub was_unspent : (x : Bears) (t n : ℕ) (hs : List Bears) → x.table ≡ t → Contains (without_hold t n hs) x → Contains hs x × (x.row ≢ n)
+was_unspent x t n hs own m = let was = was_kept (λ h. not (bears t n h)) x hs m in (was.0, grind (arith, nat_tests, was.1))
 
-pub stays_unspent : (x : Bears) (t n : ℕ) (hs : List Bears) → x.row ≢ n → Among x hs → Among x (spent t n hs)
-stays_unspent x t n [] ne m = absurd m
-stays_unspent x t n (h ∷ hs) ne m = grind (arith, nat_tests, stays_unspent x t n hs ne)
-
--- none of these has the number
-pub none_among : (n : ℕ) (cs : List Claim) → NoneNamed n cs → (c : Claim) → Among c cs → number_of c ≢ n
-none_among n [] h c m q = absurd m
-none_among n (d ∷ cs) h c m q = grind (arith, none_among n cs h.1 c)
+pub stays_unspent : (x : Bears) (t n : ℕ) (hs : List Bears) → x.row ≢ n → Contains hs x → Contains (without_hold t n hs) x
+stays_unspent x t n hs ne m = is_kept (λ h. not (bears t n h)) x hs (grind (arith, nat_tests)) m

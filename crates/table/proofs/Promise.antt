@@ -1,9 +1,13 @@
 -- What every run keeps, of the account: bounds and vectors, who is late, ranks. Assumes nothing.
-use Rattle.std.proofs.Common.{◌≡◌, ℕ, zero, suc, ◌<◌, cond, eqb, List, [], ◌∷◌, ◌++◌, length, Ok, Err, Result, sym, refl, ap, ◌∙◌, inl, inr, not-suc-le-zero, arith}
+use Rattle.std.proofs.Common.{◌≡◌, ℕ, zero, suc, ◌<◌, cond, eqb, List, [], ◌∷◌, ◌++◌, length, get_or, Ok, Err, Result, sym, refl, ap, ◌∙◌, not-suc-le-zero, arith}
+use native.Mathlib.Decide.{dec_lt}
+use Rattle.std.specs.Prelude.{Contains}
+use Rattle.std.proofs.lemmas.List.Elements.{All-cons}
+use Rattle.demand.specs.Demand.{Lawful}
 use Rattle.demand.specs.Refusals.{first}
 use Rattle.analysis.specs.declared.Row.{Row}
 use Rattle.analysis.specs.Plans.{Bounds}
-use Rattle.analysis.specs.Ranks.{Claim, ranking, rows, loads_of, loads, at, system_of, Reordered, same, next, swapped, through}
+use Rattle.analysis.specs.Ranks.{Claim, ranking, rows, loads_of, loads, at, system_of}
 use Rattle.analysis.proofs.Best.{late_no_plan}
 use Rattle.analysis.proofs.Order.{highest_first}
 use Rattle.analysis.proofs.Ranked.{length_ranked}
@@ -15,8 +19,8 @@ use Rattle.table.specs.Account.{Account, number_of, has_number, hold_number, Bou
 use Rattle.table.specs.Agreement.{Sound, DistinctNumbers}
 use Rattle.table.specs.Runs.{Event, holding, keeping, releasing, withdrawing, bounding, Step, after, Run, LateWithoutPlan}
 use Rattle.table.proofs.Checks.{is_absent}
-use Rattle.table.proofs.Parts.{Among, none_named, none_among}
-use Rattle.table.proofs.Shared.{named_reordered, numbers_reordered, needs_grow, has_plan}
+use Rattle.table.proofs.Parts.{other_numbers}
+use Rattle.table.proofs.Shared.{contains_reordered, number_reordered, numbers_reordered, needs_grow, has_plan}
 use Rattle.table.proofs.Unique.{same_bounds, same_vectors}
 
 -- the account after a step is determined
@@ -48,38 +52,34 @@ pub run_before : (start : Account) (later : List Event) (e : Event) (earlier : L
 run_before start [] e earlier run = run
 run_before start (x ∷ later) e earlier run = run_before start later e earlier run.0
 
-pub among_reordered : {A : Type 0} (x : A) {xs ys : List A} → Reordered xs ys → Among x xs → Among x ys
-among_reordered x same m = m
-among_reordered x (next r) m = grind (arith, among_reordered x r)
-among_reordered x swapped m = grind arith
-among_reordered x (through r q) m = among_reordered x q (among_reordered x r m)
+-- the row of a rank
+claim_at : (all : List Row) (cs : List Claim) (k : ℕ) (d : Claim) → k < length cs → (at (loads_of all cs) k).claim ≡ get_or cs k d
+claim_at all [] k d l = absurd (not-suc-le-zero l)
+claim_at all (c ∷ cs) zero d l = refl
+claim_at all (c ∷ cs) (suc k) d l = claim_at all cs k d (omega arith)
 
 -- each row has a rank
-rank_among : (all : List Row) (c : Claim) (cs : List Claim) → Among c cs → (k : ℕ) × (k < length cs) × ((at (loads_of all cs) k).claim ≡ c)
-rank_among all c [] m = absurd m
-rank_among all c (d ∷ ds) (inl e) = (0, omega arith, e)
-rank_among all c (d ∷ ds) (inr m) = let rest = rank_among all c ds m in (suc rest.0, omega (arith, rest.1), rest.2)
-
-pub rank_of_row : (cs : List Claim) (c : Claim) → Among c cs → (k : ℕ) × (k < length cs) × ((at (loads (ranking cs)) k).claim ≡ c)
+pub rank_of_row : (cs : List Claim) (c : Claim) → Contains cs c → (k : ℕ) × (k < length cs) × ((at (loads (ranking cs)) k).claim ≡ c)
 rank_of_row cs c m =
-    let found = rank_among (rows (ranking cs)) c (ranking cs) (among_reordered c (highest_first cs).reordered m) in
+    let there = contains_reordered c (highest_first cs).reordered m in
     let same_length = length_ranked cs in
-    (found.0, omega (arith, found.1), found.2)
-
-at_among : (all : List Row) (cs : List Claim) (k : ℕ) → k < length cs → Among (at (loads_of all cs) k).claim cs
-at_among all [] k h = absurd (not-suc-le-zero h)
-at_among all (c ∷ cs) zero h = inl refl
-at_among all (c ∷ cs) (suc k) h = inr (at_among all cs k (omega arith))
+    (there.0, omega (arith, there.1), claim_at (rows (ranking cs)) (ranking cs) there.0 c there.1 ∙ there.2)
 
 -- where no two share a number, a number has one rank
 same_rank : (all : List Row) (cs : List Claim) → DistinctNumbers cs → (j k : ℕ) → j < length cs → k < length cs → (at (loads_of all cs) j).claim.row.number ≡ (at (loads_of all cs) k).claim.row.number → j ≡ k
-same_rank all [] d j k hj hk e = absurd (not-suc-le-zero hj)
-same_rank all (c ∷ cs) d zero zero hj hk e = refl
-same_rank all (c ∷ cs) d zero (suc k) hj hk e =
-    absurd (none_among (number_of c) cs d.0 (at (loads_of all cs) k).claim (at_among all cs k (omega arith)) (sym e))
-same_rank all (c ∷ cs) d (suc j) zero hj hk e =
-    absurd (none_among (number_of c) cs d.0 (at (loads_of all cs) j).claim (at_among all cs j (omega arith)) e)
-same_rank all (c ∷ cs) d (suc j) (suc k) hj hk e = ap suc (same_rank all cs d.1 j k (omega arith) (omega arith) e)
+same_rank all cs d j k hj hk e = elim (dec_lt j k) [
+  | yes l ↦ absurd (d j k c l hk same_number_there)
+  | no l ↦ elim (dec_lt k j) [
+    | yes m ↦ absurd (d k j c m hj (sym same_number_there))
+    | no m ↦ omega arith
+  ]
+]
+  where
+    c : Claim
+    c = (at (loads_of all cs) j).claim
+
+    same_number_there : number_of (get_or cs j c) ≡ number_of (get_or cs k c)
+    same_number_there = sym (ap number_of (claim_at all cs j c hj)) ∙ e ∙ ap number_of (claim_at all cs k c hk)
 
 pub is_late : (e : HoldRefusal) → cond (eqb (hold_number e) 11) 0 (hold_number e) ≡ 0 → hold_number e ≡ 11
 is_late e q = grind arith
@@ -101,14 +101,16 @@ module _ (a : Account) (s : Sound a) where
   bound_given k h NoSuchRow b =
       let few = length_ranked a.rows in
       let n : ℕ = (at (loads (ranking a.rows)) k).claim.row.number in
-      none_among n (ranking a.rows) (named_reordered n (highest_first a.rows).reordered (none_named n a.rows (is_absent (has_number n a.rows) b))) (at (loads (ranking a.rows)) k).claim (at_among (rows (ranking a.rows)) (ranking a.rows) k (omega arith)) refl
+      let c : Claim = (at (loads (ranking a.rows)) k).claim in
+      other_numbers n (ranking a.rows) (sym (number_reordered n (highest_first a.rows).reordered) ∙ is_absent (has_number n a.rows) b) k c (omega arith)
+      (ap number_of (claim_at (rows (ranking a.rows)) (ranking a.rows) k c (omega arith)))
 
   pub late_only : (c : Claim) (r : Result Hold HoldRefusal) (b : Account) → Step a (holding c r) b → LateWithoutPlan a c r
   late_only c (Ok h) b step passes =
-      (λ x. absurd (omega arith), λ no_plan. absurd (has_plan (c ∷ a.rows) (step.0, s.lawful) step.1.0.in_time no_plan))
+      (λ x. absurd (omega arith), λ no_plan. absurd (has_plan (c ∷ a.rows) (All-cons (λ d. Lawful d.demand) c a.rows step.0 s.lawful) step.1.0.in_time no_plan))
   late_only c (Err d) b step passes = (
     λ x.
         let late = step.1.0.late x in
-        late_no_plan (system_of (c ∷ a.rows)) (needs_grow (c ∷ a.rows) (step.0, s.lawful)) late.0 late.1,
+        late_no_plan (system_of (c ∷ a.rows)) (needs_grow (c ∷ a.rows) (All-cons (λ d. Lawful d.demand) c a.rows step.0 s.lawful)) late.0 late.1,
     λ no_plan. is_late d (sym step.1.0.by_number ∙ passes),
   )

@@ -1,7 +1,10 @@
 -- Rows in another order, checks of which none applies, rows that are in time, and places. Assumes nothing.
-use Rattle.std.proofs.Common.{◌≡◌, ℕ, zero, suc, ◌<◌, ◌≤◌, Bool, false, ◌||◌, eqb, ltb, ◌≢◌, List, [], ◌∷◌, length, get_or, Some, None, Option, sym, refl, ap, ◌∙◌, subst, arith}
-use Rattle.std.specs.List.{list_any}
-use Rattle.std.proofs.lemmas.List.Recursion.{same_from_clauses}
+use Rattle.std.proofs.Common.{◌≡◌, ℕ, zero, suc, ◌<◌, ◌≤◌, Bool, true, false, cond, ◌||◌, eqb, ltb, ◌≢◌, List, [], ◌∷◌, length, get_or, Some, None, Option, sym, refl, ap, ◌∙◌, subst, arith}
+use Rattle.std.specs.Prelude.{All, AllPairs, Contains}
+use Rattle.std.specs.List.{filter, list_any}
+use Rattle.std.proofs.lemmas.List.Elements.{All-cons, All-contains, All-contains_itself, All-head, All-tail}
+use Rattle.std.proofs.lemmas.List.Kept.{AllPairs-cons}
+use Rattle.std.proofs.lemmas.Bool.Decides.{nat_tests}
 use Rattle.std.proofs.lemmas.Bool.{leb-false, ltb-false, or_parts}
 use Rattle.demand.specs.Demand.{Demand}
 use Rattle.demand.specs.Refusals.{first}
@@ -16,9 +19,9 @@ use Rattle.analysis.proofs.Order.{highest_first, lawful_reordered, reordered_app
 use Rattle.analysis.proofs.Ranked.{length_ranked}
 use Rattle.table.specs.declared.refusals.HoldRefusal.{HoldRefusal}
 use Rattle.table.specs.declared.state.State.{State}
-use Rattle.table.specs.Account.{Account, number_of, has_number, has_priority, no_byte, hold_checks, hold_number, unspent, AllInTime}
-use Rattle.table.specs.Agreement.{NoneNamed, DistinctNumbers, LawfulRows, StandsAt}
-use Rattle.table.proofs.Parts.{all_lawful, none_named, none_at}
+use Rattle.table.specs.Account.{Account, number_of, has_number, has_priority, is_no_number, is_no_priority, hold_checks, hold_number, has_unspent, AllInTime}
+use Rattle.table.specs.Agreement.{DistinctNumbers, LawfulRows, StandsAt}
+use Rattle.table.proofs.Parts.{all_lawful, none_at, pairs_head, pairs_tail}
 
 pub reordered_refl : {A : Type 0} (xs : List A) → Reordered xs xs
 reordered_refl xs = reordered_append xs same
@@ -45,30 +48,54 @@ any_reordered test (next {a = a} r) = ap (λ b. test a || b) (any_reordered test
 any_reordered test (swapped {a = a} {b = b} {xs = xs}) = or_swap (test a) (test b) (list_any test xs)
 any_reordered test (through r q) = any_reordered test r ∙ any_reordered test q
 
--- a test of each row in turn is `any`
-is_any : (F : List Claim → Bool) (test : Claim → Bool) → F [] ≡ false → ((c : Claim) (cs : List Claim) → F (c ∷ cs) ≡ (test c || F cs)) → {xs ys : List Claim} → Reordered xs ys → F xs ≡ F ys
-is_any F test none more {xs = xs} {ys = ys} r =
-    let same_as : (cs : List Claim) → F cs ≡ list_any test cs = same_from_clauses F (list_any test) (λ c b. test c || b) none more (λ _ _. refl) in
-    same_as xs ∙ any_reordered test r ∙ sym (same_as ys)
+-- those that pass a test are the same in another order
+pub filter_reordered : {A : Type 0} (test : A → Bool) {xs ys : List A} → Reordered xs ys → Reordered (filter test xs) (filter test ys)
+filter_reordered test same = same
+filter_reordered test (next {a = a} {xs = xs} {ys = ys} r) = go (test a) (filter_reordered test r)
+  where
+    go : (b : Bool) → Reordered (filter test xs) (filter test ys) → Reordered (cond b (a ∷ filter test xs) (filter test xs)) (cond b (a ∷ filter test ys) (filter test ys))
+    go true q = next q
+    go false q = q
+filter_reordered {A = A} test (swapped {a = a} {b = b} {xs = xs}) = go (test a) (test b) (filter test xs)
+  where
+    go : (s t : Bool) (zs : List A) → Reordered (cond s (a ∷ cond t (b ∷ zs) zs) (cond t (b ∷ zs) zs)) (cond t (b ∷ cond s (a ∷ zs) zs) (cond s (a ∷ zs) zs))
+    go true true zs = swapped
+    go true false zs = reordered_refl (a ∷ zs)
+    go false true zs = reordered_refl (b ∷ zs)
+    go false false zs = reordered_refl zs
+filter_reordered test (through r q) = through (filter_reordered test r) (filter_reordered test q)
 
 -- the order of the rows does not matter
 pub number_reordered : (n : ℕ) {xs ys : List Claim} → Reordered xs ys → has_number n xs ≡ has_number n ys
-number_reordered n = is_any (has_number n) (λ c. eqb (number_of c) n) refl (λ _ _. refl)
+number_reordered n = any_reordered (λ c. eqb (number_of c) n)
 
 pub priority_reordered : (p : ℕ) {xs ys : List Claim} → Reordered xs ys → has_priority p xs ≡ has_priority p ys
-priority_reordered p = is_any (has_priority p) (λ c. eqb c.row.priority p) refl (λ _ _. refl)
+priority_reordered p = any_reordered (λ c. eqb c.row.priority p)
 
-pub named_reordered : (n : ℕ) {xs ys : List Claim} → Reordered xs ys → NoneNamed n xs → NoneNamed n ys
-named_reordered n same h = h
-named_reordered n (next r) h = (h.0, named_reordered n r h.1)
-named_reordered n swapped h = (h.1.0, (h.0, h.1.1))
-named_reordered n (through r q) h = named_reordered n q (named_reordered n r h)
+-- what is true of each element, or of each two, and what is contained, does not hang on their order
+pub all_reordered : {A : Type 0} (P : A → Type 0) {xs ys : List A} → Reordered xs ys → All P xs → All P ys
+all_reordered P same h = h
+all_reordered P (next {a = a} {xs = xs} {ys = ys} r) h = All-cons P a ys (All-head P a xs h) (all_reordered P r (All-tail P a xs h))
+all_reordered P (swapped {a = a} {b = b} {xs = xs}) h =
+    let rest = All-tail P a (b ∷ xs) h in
+    All-cons P b (a ∷ xs) (All-head P b xs rest) (All-cons P a xs (All-head P a (b ∷ xs) h) (All-tail P b xs rest))
+all_reordered P (through r q) h = all_reordered P q (all_reordered P r h)
+
+pub pairs_reordered : {A : Type 0} (R : A → A → Type 0) → ((x y : A) → R x y → R y x) → {xs ys : List A} → Reordered xs ys → AllPairs R xs → AllPairs R ys
+pairs_reordered R back same p = p
+pairs_reordered R back (next {a = a} {xs = xs} {ys = ys} r) p = AllPairs-cons R a ys (all_reordered (R a) r (pairs_head R a xs p)) (pairs_reordered R back r (pairs_tail R a xs p))
+pairs_reordered R back (swapped {a = a} {b = b} {xs = xs}) p =
+    let first = pairs_head R a (b ∷ xs) p in
+    let rest = pairs_tail R a (b ∷ xs) p in
+    AllPairs-cons R b (a ∷ xs) (All-cons (R b) a xs (back a b (All-head (R a) b xs first)) (pairs_head R b xs rest))
+    (AllPairs-cons R a xs (All-tail (R a) b xs first) (pairs_tail R b xs rest))
+pairs_reordered R back (through r q) p = pairs_reordered R back q (pairs_reordered R back r p)
+
+pub contains_reordered : {A : Type 0} (x : A) {xs ys : List A} → Reordered xs ys → Contains xs x → Contains ys x
+contains_reordered x {xs = xs} {ys = ys} r m = All-contains (Contains ys) xs x (all_reordered (Contains ys) (reordered_back r) (All-contains_itself ys)) m
 
 pub numbers_reordered : {xs ys : List Claim} → Reordered xs ys → DistinctNumbers xs → DistinctNumbers ys
-numbers_reordered same d = d
-numbers_reordered (next {a = a} r) d = (named_reordered (number_of a) r d.0, numbers_reordered r d.1)
-numbers_reordered swapped d = ((λ e. d.0.0 (sym e), d.1.0), (d.0.1, d.1.1))
-numbers_reordered (through r q) d = numbers_reordered q (numbers_reordered r d)
+numbers_reordered r d = pairs_reordered (λ c d. number_of c ≢ number_of d) (λ c d ne e. ne (sym e)) r d
 
 -- each check has a number from low to high
 abbrev pub Numbered : ℕ → ℕ → List (Bool × ℕ) → Type 0
@@ -88,7 +115,7 @@ at_least_five e = grind arith
 
 -- The number and the priority of a row that passes are new, and there is room for it. Its number is one byte, and its deadline within its spacing.
 pub record Passed (a : Account) (c : Claim) : Type 0 where
-  pub number : NoneNamed (number_of c) a.rows
+  pub number : has_number (number_of c) a.rows ≡ false
   pub priority : NoneAt c.row.priority a.rows
   pub room : length a.rows < a.room
   pub byte : number_of c ≤ 255
@@ -98,12 +125,12 @@ pub passed : (a : Account) (c : Claim) → first (hold_checks a c) ≡ 0 → Pas
 passed a c e =
     let none_of = none_applies 5 10 (hold_checks a c) (omega arith) ((omega arith, omega arith), ((omega arith, omega arith), ((omega arith, omega arith), ((omega arith, omega arith), ((omega arith, omega arith), ((omega arith, omega arith), tt)))))) e in
     record {
-      number = none_named (number_of c) a.rows (or_parts (no_byte (number_of c)) (has_number (number_of c) a.rows) none_of.0).1;
-      priority = none_at c.row.priority a.rows (or_parts (no_byte c.row.priority) (has_priority c.row.priority a.rows) none_of.1.0).1;
+      number = (or_parts (is_no_number (number_of c)) (has_number (number_of c) a.rows) none_of.0).1;
+      priority = none_at c.row.priority a.rows (or_parts (is_no_priority c.row.priority) (has_priority c.row.priority a.rows) none_of.1.0).1;
       room = leb-false a.room (length a.rows) none_of.1.1.1.1.1.0;
       byte =
           ltb-false 255 (number_of c)
-          (or_parts (eqb (number_of c) 0) (ltb 255 (number_of c)) (or_parts (no_byte (number_of c)) (has_number (number_of c) a.rows) none_of.0).0).1;
+          (or_parts (eqb (number_of c) 0) (ltb 255 (number_of c)) (or_parts (is_no_number (number_of c)) (has_number (number_of c) a.rows) none_of.0).0).1;
       deadline =
           ltb-false c.demand.spacing c.row.deadline
           (or_parts (eqb c.row.deadline 0) (ltb c.demand.spacing c.row.deadline) none_of.1.1.1.0).1;
@@ -131,12 +158,12 @@ all_ranks cs t = subst (λ (n : ℕ). Bounds (system_of cs) n t.R t.V) (sym (len
 pub has_plan : (cs : List Claim) → LawfulRows cs → AllInTime cs → NoPlan (system_of cs) → ⊥
 has_plan cs lawful t no_plan = no_plan t.V t.R (is_plan (system_of cs) (needs_grow cs lawful) t.R t.V (all_ranks cs t))
 
-pub none_named_at : {K : Type 0} (demand : K → Demand) (n : ℕ) (os : List (Option (Task K))) (p : ℕ) (u : Task K) → NoneNamed n (claims_of demand os) → get_or os p None ≡ Some u → u.row.number ≢ n
+pub none_named_at : {K : Type 0} (demand : K → Demand) (n : ℕ) (os : List (Option (Task K))) (p : ℕ) (u : Task K) → has_number n (claims_of demand os) ≡ false → get_or os p None ≡ Some u → u.row.number ≢ n
 none_named_at demand n [] p u h e = cc
-none_named_at demand n (o ∷ os) zero u h e = grind arith
-none_named_at demand n (o ∷ os) (suc p) u h e = grind (arith, none_named_at demand n os p u)
+none_named_at demand n (o ∷ os) zero u h e = grind (arith, nat_tests)
+none_named_at demand n (o ∷ os) (suc p) u h e = grind (arith, nat_tests, none_named_at demand n os p u)
 
 module _ {K : Type 0} (a : Account) where
   -- a row of another number stands as it stood
-  pub stands_still : (b : Account) (n : ℕ) → ((m : ℕ) → m ≢ n → unspent b.number m b.holds ≡ unspent a.number m a.holds) → (s : State) (o : Option (Task K)) → ((t : Task K) → o ≡ Some t → t.row.number ≢ n) → StandsAt a s o → StandsAt b s o
+  pub stands_still : (b : Account) (n : ℕ) → ((m : ℕ) → m ≢ n → has_unspent b.number m b.holds ≡ has_unspent a.number m a.holds) → (s : State) (o : Option (Task K)) → ((t : Task K) → o ≡ Some t → t.row.number ≢ n) → StandsAt a s o → StandsAt b s o
   stands_still b n still s o other h = grind arith

@@ -2,8 +2,11 @@
 -- How to read it: a is the account before a call, b the one after it, c a row with the meaning of its kind, h a hold, n the number of a row. The
 -- calls are `Holds`, `HoldsAnswered`, `Spends` (keep and release), `Withdraws` and `BoundsAnswered`; each says which answers the account allows.
 -- A check is a pair, whether it applies and its number; `first` is the number of the first that applies, and 0 where none does.
-use Rattle.std.specs.Prelude.{◌≡◌, ℕ, ◌<◌, Bool, true, false, cond, not, ◌&&◌, ◌||◌, List, [], ◌∷◌, ◌++◌, length, Ok, Err, Result, ◌==◌, nat_le, nat_lt}
+use Rattle.std.specs.Prelude.{◌≡◌, ℕ, ◌<◌, Bool, if◌then◌else◌, not, ◌&&◌, ◌||◌, List, [], ◌∷◌, ◌++◌, length, Ok, Err, Result, ◌==◌, nat_le, nat_lt}
 use Rattle.demand.specs.Refusals.{first}
+use Rattle.std.specs.Bool.{beq}
+use Rattle.std.specs.List.{filter, list_any}
+use Rattle.table.specs.declared.TheConstants.{LARGEST_NUMBER, LARGEST_PRIORITY, LONGEST_SUSPENSION, MOST_SUSPENSIONS}
 use Rattle.analysis.specs.declared.answers.Answers.{Answers}
 use Rattle.analysis.specs.Judge.{Answered, LateRow, answers_of}
 use Rattle.analysis.specs.Plans.{Bounds}
@@ -31,8 +34,8 @@ pub record Account : Type 0 where
   pub holds : List Bears
 
 -- neither rows nor holds
-abbrev pub fresh : ℕ → ℕ → Account
-fresh number room = record { number = number; room = room; rows = []; holds = [] }
+abbrev pub fresh_account : ℕ → ℕ → Account
+fresh_account number room = record { number = number; room = room; rows = []; holds = [] }
 
 -- the row's number
 abbrev pub number_of : Claim → ℕ
@@ -40,37 +43,39 @@ number_of c = c.row.number
 
 -- a row of these has the number n
 abbrev pub has_number : ℕ → List Claim → Bool
-has_number n [] = false
-has_number n (c ∷ cs) = number_of c == n || has_number n cs
+has_number n cs = list_any (λ c. number_of c == n) cs
 
 -- a row of these has the priority p
 abbrev pub has_priority : ℕ → List Claim → Bool
-has_priority p [] = false
-has_priority p (c ∷ cs) = c.row.priority == p || has_priority p cs
+has_priority p cs = list_any (λ c. c.row.priority == p) cs
 
 -- some length is above the limit
 abbrev pub any_above : ℕ → List ℕ → Bool
-any_above limit [] = false
-any_above limit (n ∷ ns) = nat_lt limit n || any_above limit ns
+any_above limit ns = list_any (nat_lt limit) ns
 
--- both are true or both are false
-abbrev pub same : Bool → Bool → Bool
-same true b = b
-same false b = not b
+-- no row may have this number
+abbrev pub is_no_number : ℕ → Bool
+is_no_number n = n == 0 || nat_lt LARGEST_NUMBER n
 
--- outside 1 to 255
-abbrev pub no_byte : ℕ → Bool
-no_byte n = n == 0 || nat_lt 255 n
+-- no row may have this priority
+abbrev pub is_no_priority : ℕ → Bool
+is_no_priority p = p == 0 || nat_lt LARGEST_PRIORITY p
+
+-- the suspension or its count is beyond its limit, or just one of the two is 0
+abbrev pub is_no_suspension : ℕ → ℕ → Bool
+is_no_suspension total count =
+    nat_lt LONGEST_SUSPENSION total
+    || (nat_lt MOST_SUSPENSIONS count || not (beq (total == 0) (count == 0)))
 
 -- When the numbers of a row are refused, and by which number, in this order.
 abbrev pub row_checks : Account → Claim → List (Bool × ℕ)
 row_checks a c =
-    -- the number is no byte above 0, or taken
-    (no_byte (number_of c) || has_number (number_of c) a.rows, 5)
-    -- the priority is no byte above 0, or taken
-    ∷ (no_byte c.row.priority || has_priority c.row.priority a.rows, 6)
-    -- the suspension total or count is beyond its limit, or just one of the two is 0
-    ∷ (nat_lt 1_000_000 c.row.suspension || (nat_lt 63 c.row.suspensions || not (same (c.row.suspension == 0) (c.row.suspensions == 0))), 7)
+    -- the number is beyond its limits, or taken
+    (is_no_number (number_of c) || has_number (number_of c) a.rows, 5)
+    -- the priority is beyond its limits, or taken
+    ∷ (is_no_priority c.row.priority || has_priority c.row.priority a.rows, 6)
+    -- the suspension is beyond its limits
+    ∷ (is_no_suspension c.row.suspension c.row.suspensions, 7)
     -- the deadline is 0 or beyond the spacing
     ∷ (c.row.deadline == 0 || nat_lt c.demand.spacing c.row.deadline, 8)
     -- a section is longer than the longest job
@@ -128,7 +133,7 @@ pub record AllInTime (cs : List Claim) : Type 0 where
 -- A hold is refused by the first check that applies, or as late where none does and some row would then be late; the first
 -- such row is named.
 pub record Refused (a : Account) (c : Claim) (e : HoldRefusal) : Type 0 where
-  pub by_number : first (hold_checks a c) ≡ cond (hold_number e == 11) 0 (hold_number e)
+  pub by_number : first (hold_checks a c) ≡ (if hold_number e == 11 then 0 else hold_number e)
   pub late : hold_number e ≡ 11 → LateRow (loads (ranking (c ∷ a.rows))) (hold_late e)
 
 -- the account with one row more, held
@@ -167,53 +172,49 @@ abbrev pub bears : ℕ → ℕ → Bears → Bool
 bears table row h = h.table == table && h.row == row
 
 -- one of these holds bears the two numbers
-abbrev pub unspent : ℕ → ℕ → List Bears → Bool
-unspent table row [] = false
-unspent table row (h ∷ hs) = bears table row h || unspent table row hs
+abbrev pub has_unspent : ℕ → ℕ → List Bears → Bool
+has_unspent table row hs = list_any (bears table row) hs
 
 -- one of these holds bears the row's number
-abbrev pub held : ℕ → List Bears → Bool
-held row [] = false
-held row (h ∷ hs) = h.row == row || held row hs
+abbrev pub has_hold_on : ℕ → List Bears → Bool
+has_hold_on row hs = list_any (λ h. h.row == row) hs
 
 -- the holds but those that bear the two numbers
-abbrev pub spent : ℕ → ℕ → List Bears → List Bears
-spent table row [] = []
-spent table row (h ∷ hs) = cond (bears table row h) (spent table row hs) (h ∷ spent table row hs)
+abbrev pub without_hold : ℕ → ℕ → List Bears → List Bears
+without_hold table row hs = filter (λ h. not (bears table row h)) hs
 
 -- the rows but that with the number n
-abbrev pub without : ℕ → List Claim → List Claim
-without n [] = []
-without n (c ∷ cs) = cond (number_of c == n) (without n cs) (c ∷ without n cs)
+abbrev pub without_row : ℕ → List Claim → List Claim
+without_row n cs = filter (λ c. not (number_of c == n)) cs
 
 -- the hold is spent, and its row stays
 abbrev pub with_kept : Account → Hold → Account
-with_kept a h = record { number = a.number; room = a.room; rows = a.rows; holds = spent h.table h.row a.holds }
+with_kept a h = record { number = a.number; room = a.room; rows = a.rows; holds = without_hold h.table h.row a.holds }
 
 -- the hold is spent, and its row goes out
 abbrev pub with_released : Account → Hold → Account
-with_released a h = record { number = a.number; room = a.room; rows = without h.row a.rows; holds = spent h.table h.row a.holds }
+with_released a h = record { number = a.number; room = a.room; rows = without_row h.row a.rows; holds = without_hold h.table h.row a.holds }
 
 -- the hold that a refusal hands back
-abbrev pub handed_back : SpendRefusal → Hold
-handed_back (NotHeld h) = h
+abbrev pub hold_of : SpendRefusal → Hold
+hold_of (NotHeld h) = h
 
 -- When a hold is not spent: it is none of the unspent ones.
 abbrev pub spend_checks : Account → Hold → List (Bool × ℕ)
-spend_checks a h = (not (unspent h.table h.row a.holds), 12) ∷ []
+spend_checks a h = (not (has_unspent h.table h.row a.holds), 12) ∷ []
 
 -- what a call of keep or release answers, where `after` is the account with the hold spent; a hold that is not spent comes back
 abbrev pub Spends : Account → Hold → Account → Result (Unit {0}) SpendRefusal → Account → Type 0
 Spends a h after (Ok u) b = (first (spend_checks a h) ≡ 0) × (b ≡ after)
-Spends a h after (Err e) b = (first (spend_checks a h) ≡ spend_number e) × (handed_back e ≡ h) × (b ≡ a)
+Spends a h after (Err e) b = (first (spend_checks a h) ≡ spend_number e) × (hold_of e ≡ h) × (b ≡ a)
 
 -- the row of this number goes out
 abbrev pub with_withdrawn : Account → ℕ → Account
-with_withdrawn a n = record { number = a.number; room = a.room; rows = without n a.rows; holds = a.holds }
+with_withdrawn a n = record { number = a.number; room = a.room; rows = without_row n a.rows; holds = a.holds }
 
 -- When a row is not withdrawn, in this order: there is no such row; it is held.
 abbrev pub withdraw_checks : Account → ℕ → List (Bool × ℕ)
-withdraw_checks a n = (not (has_number n a.rows), 13) ∷ (held n a.holds, 14) ∷ []
+withdraw_checks a n = (not (has_number n a.rows), 13) ∷ (has_hold_on n a.holds, 14) ∷ []
 
 -- what a call of withdraw answers
 abbrev pub Withdraws : Account → ℕ → Result (Unit {0}) WithdrawRefusal → Account → Type 0

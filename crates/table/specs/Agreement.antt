@@ -1,7 +1,7 @@
 -- When a table agrees with an account. Assumes nothing.
 -- How to read it: `Agrees` ties the fields of a table to an account, and `demand` is what values of the kind K mean. Up to `Sound` all is about
 -- accounts alone.
-use Rattle.std.specs.Prelude.{◌≡◌, ℕ, ◌<◌, min, true, false, ◌≢◌, List, [], ◌∷◌, length, take, Some, None, Option, slice_index_or}
+use Rattle.std.specs.Prelude.{◌≡◌, ℕ, ◌<◌, min, true, false, ◌≢◌, List, length, All, AllPairs, take, Some, None, Option, slice_index_or}
 use Rattle.demand.specs.Demand.{Demand, Lawful}
 use Rattle.analysis.specs.declared.Task.{Task}
 use Rattle.analysis.specs.Candidates.{claims_of}
@@ -9,27 +9,20 @@ use Rattle.analysis.specs.Ranks.{Claim, Reordered, DistinctPriorities}
 use Rattle.table.specs.declared.Table.{Table}
 use Rattle.table.specs.declared.state.State.{State}
 use Rattle.table.specs.declared.state.State.TheVariants.{Free, Held, Kept}
-use Rattle.table.specs.Account.{Account, Bears, number_of, has_number, unspent, held, AllInTime}
-
--- no row of these has the number n
-abbrev pub NoneNamed : ℕ → List Claim → Type 0
-NoneNamed n [] = Unit {0}
-NoneNamed n (c ∷ cs) = (number_of c ≢ n) × NoneNamed n cs
+use Rattle.analysis.specs.declared.TheConstants.{MOST_ROWS}
+use Rattle.table.specs.Account.{Account, Bears, number_of, has_number, has_unspent, has_hold_on, AllInTime}
 
 -- no two rows share a number
 abbrev pub DistinctNumbers : List Claim → Type 0
-DistinctNumbers [] = Unit {0}
-DistinctNumbers (c ∷ cs) = NoneNamed (number_of c) cs × DistinctNumbers cs
+DistinctNumbers cs = AllPairs (λ c d. number_of c ≢ number_of d) cs
 
 -- each row's kind keeps the laws
 abbrev pub LawfulRows : List Claim → Type 0
-LawfulRows [] = Unit {0}
-LawfulRows (c ∷ cs) = Lawful c.demand × LawfulRows cs
+LawfulRows cs = All (λ c. Lawful c.demand) cs
 
 -- each unspent hold is of this table and of one of its rows
 abbrev pub OwnHolds : ℕ → List Claim → List Bears → Type 0
-OwnHolds table cs [] = Unit {0}
-OwnHolds table cs (h ∷ hs) = ((h.table ≡ table) × (has_number h.row cs ≡ true)) × OwnHolds table cs hs
+OwnHolds table cs hs = All (λ h. (h.table ≡ table) × (has_number h.row cs ≡ true)) hs
 
 -- what is true of the account after every run
 pub record Sound (a : Account) : Type 0 where
@@ -42,8 +35,8 @@ pub record Sound (a : Account) : Type 0 where
 -- what the account says of the row with the number n
 abbrev pub StateOf : Account → ℕ → State → Type 0
 StateOf a n Free = has_number n a.rows ≡ false
-StateOf a n (Held m) = (m ≡ n) × (has_number n a.rows ≡ true) × (held n a.holds ≡ true)
-StateOf a n (Kept m) = (m ≡ n) × (has_number n a.rows ≡ true) × (held n a.holds ≡ false)
+StateOf a n (Held m) = (m ≡ n) × (has_number n a.rows ≡ true) × (has_hold_on n a.holds ≡ true)
+StateOf a n (Kept m) = (m ≡ n) × (has_number n a.rows ≡ true) × (has_hold_on n a.holds ≡ false)
 
 module _ {K : Type 0} where
   -- what stands at a place, as the account has it: a row is held while its hold is unspent, else kept
@@ -51,17 +44,18 @@ module _ {K : Type 0} where
   StandsAt a Free None = Unit {0}
   StandsAt a Free (Some t) = ⊥
   StandsAt a (Held n) None = ⊥
-  StandsAt a (Held n) (Some t) = (n ≡ t.row.number) × (unspent a.number n a.holds ≡ true)
+  StandsAt a (Held n) (Some t) = (n ≡ t.row.number) × (has_unspent a.number n a.holds ≡ true)
   StandsAt a (Kept n) None = ⊥
-  StandsAt a (Kept n) (Some t) = (n ≡ t.row.number) × (unspent a.number n a.holds ≡ false)
+  StandsAt a (Kept n) (Some t) = (n ≡ t.row.number) × (has_unspent a.number n a.holds ≡ false)
 
   -- the table's number, its states and its row memory agree with the account
   pub record Agrees (demand : K → Demand) (a : Account) (number : ℕ) (states : List State) (places : List (Option (Task K))) : Type 0 where
     pub number_is : a.number ≡ number
-    pub states_are : length states ≡ 12
-    pub room_is : a.room ≡ min (length places) 12
-    pub rows_are : Reordered (claims_of demand (take 12 places)) a.rows
-    pub at_each : (i : ℕ) → i < 12 → StandsAt a (slice_index_or states i Free) (slice_index_or (take 12 places) i None)
+    pub states_are : length states ≡ MOST_ROWS
+    pub room_is : a.room ≡ min (length places) MOST_ROWS
+    pub rows_are : Reordered (claims_of demand (take MOST_ROWS places)) a.rows
+    pub at_each : (i : ℕ) → i < MOST_ROWS
+        → StandsAt a (slice_index_or states i Free) (slice_index_or (take MOST_ROWS places) i None)
     pub sound : Sound a
 
   -- a table agrees with an account

@@ -13,13 +13,14 @@ use Rattle.table.specs.declared.hold.Hold.{Hold}
 use Rattle.table.specs.declared.refusals.HoldRefusal.{HoldRefusal}
 use Rattle.table.specs.declared.state.State.TheVariants.{Free, Held, Kept}
 use Rattle.table.specs.declared.Table.{Table}
-use Rattle.table.specs.Account.{Account, fresh, number_of}
+use Rattle.table.specs.Account.{Account, fresh_account, number_of}
+use Rattle.analysis.specs.declared.TheConstants.{MOST_ROWS}
 use Rattle.table.specs.Agreement.{AgreesWith}
 use Rattle.table.specs.Runs.{Event, holding, bounding, after_all, Run, Step, LateWithoutPlan, Stands, Unspent}
 
--- the fresh account of a table: with its number, and with room for as many rows as it uses places, twelve at most
+-- the fresh account of a table: with its number, and with room for as many rows as it uses places
 abbrev pub fresh_of : {K : Type 0} → Table K → Account
-fresh_of t = fresh t.number (min (length t.places.now) 12)
+fresh_of t = fresh_account t.number (min (length t.places.now) MOST_ROWS)
 
 -- the account of a table after these calls
 abbrev pub account_of : {K : Type 0} → List Event → Table K → Account
@@ -45,11 +46,11 @@ module _ {K : Type 0} (demand : K → Demand) where
 
   -- the rows at the places that a table uses, with the meanings of their kinds
   abbrev pub rows_at : Table K → List Claim
-  rows_at t = claims_of demand (take 12 t.places.now)
+  rows_at t = claims_of demand (take MOST_ROWS t.places.now)
 
-  -- the row c stands at the place p, which is one of the first twelve
+  -- the row c stands at the place p, which the table may use
   pub record RowAt (t : Table K) (p : ℕ) (c : Claim) : Type 0 where
-    pub used : p < 12
+    pub used : p < MOST_ROWS
     pub task : Task K
     pub there : slice_index_or t.places.now p None ≡ Some task
     pub row : c ≡ record { row = task.row; demand = demand task.kind }

@@ -1,11 +1,15 @@
 -- What stands at a place, and at which places a table looks. Assumes nothing.
 -- How to read it: t is a table, p a place, and P something that is said of the state at a place.
-use Rattle.std.specs.Prelude.{◌≡◌, ℕ, ◌<◌, Bool, false, cond, List, [], ◌∷◌, length, Some, None, Option, MatchOption, ◌==◌, slice_index_or}
-use Rattle.std.specs.List.{list_any}
+use Rattle.std.specs.Prelude.{◌≡◌, ℕ, ◌<◌, Bool, true, false, List, length, Option, MatchOption, ◌==◌, slice_index_or}
+use Rattle.std.specs.List.{find, list_any}
+use Rattle.std.specs.Option.{option_map}
+use Rattle.analysis.specs.declared.TheConstants.{MOST_ROWS}
 use Rattle.analysis.specs.declared.Answer.{Answer}
 use Rattle.table.specs.declared.hold.Hold.{Hold}
 use Rattle.table.specs.declared.state.State.{State}
 use Rattle.table.specs.declared.state.State.TheVariants.{Free, Held, Kept}
+use Rattle.table.specs.declared.refusals.WithdrawRefusal.{WithdrawRefusal}
+use Rattle.table.specs.declared.refusals.WithdrawRefusal.TheVariants.{NoSuchRow, NotKept}
 use Rattle.table.specs.declared.Table.{Table}
 
 -- a row with the number n stands there
@@ -22,13 +26,12 @@ is_held n (Kept m) = false
 
 -- bound and vector of the first answer for the row with the number n
 abbrev pub answer_of : ℕ → List Answer → Option (ℕ × ℕ)
-answer_of n [] = None
-answer_of n (a ∷ rest) = cond (a.number == n) (Some (a.bound, a.vector)) (answer_of n rest)
+answer_of n answers = option_map (λ a. (a.bound, a.vector)) (find (λ a. a.number == n) answers)
 
 module _ {K : Type 0} (t : Table K) where
-  -- the table uses the place: it is one of the first twelve, and within the row memory
+  -- the table uses the place: it is one of the first `MOST_ROWS`, and within the row memory
   abbrev pub Uses : ℕ → Type 0
-  Uses p = (p < 12) × (p < length t.places.now)
+  Uses p = (p < MOST_ROWS) × (p < length t.places.now)
 
   -- the table uses the place, and P is true of its state
   abbrev pub At : (State → Type 0) → ℕ → Type 0
@@ -45,3 +48,18 @@ module _ {K : Type 0} (t : Table K) where
   -- the row of the hold is held at the place
   abbrev pub HeldHere : Hold → ℕ → Type 0
   HeldHere h p = (h.table ≡ t.number) × At (λ s. s ≡ Held h.row) p
+
+  -- the row of the hold is held at no place
+  abbrev pub HeldNowhere : Hold → Type 0
+  HeldNowhere h = (p : ℕ) → HeldHere h p → ⊥
+
+  -- why no row with the number n is withdrawn: no place names it, or one has it as held
+  abbrev pub NoneKept : ℕ → WithdrawRefusal → Type 0
+  NoneKept n NoSuchRow = (p : ℕ) → At (λ s. names s n ≡ true) p → ⊥
+  NoneKept n NotKept = (p : ℕ) × At (λ s. s ≡ Held n) p
+
+  -- s is the state at a place that names the number n, or free where none does
+  abbrev pub StateHere : ℕ → State → Type 0
+  StateHere n Free = (p : ℕ) → At (λ s. names s n ≡ true) p → ⊥
+  StateHere n (Held m) = (m ≡ n) × ((p : ℕ) × At (λ s. s ≡ Held m) p)
+  StateHere n (Kept m) = (m ≡ n) × ((p : ℕ) × At (λ s. s ≡ Kept m) p)

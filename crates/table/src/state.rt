@@ -2,11 +2,14 @@
 ghost use Rattle.std.specs.Prelude.{◌≡◌};
 ghost use Rattle.table.specs.Places.{names};
 
-// What stands at a place: nothing, or a row that is held or kept, by its number.
+/// What stands at a place of a table.
 #[derive(Clone, Copy, PartialEq, Eq, Debug)]
 pub enum State {
+    /// No row.
     Free,
+    /// The row of this number, whose hold is not spent yet.
     Held(u32),
+    /// The row of this number, which was kept.
     Kept(u32),
 }
 

@@ -2,6 +2,8 @@
 use super::*;
 use analysis::{JudgeRefusal, Row};
 use demand::Every;
+use std::alloc::Global;
+use std::fmt;
 use std::test::Fail;
 
 const KIND: Every = Every {
@@ -193,4 +195,38 @@ fn a_hold_of_another_table(rt: HostRuntime) {
         }
     });
     assert_eq!(rt; (spent, refused), (Ok(()), Some(12)));
+}
+
+// What a refusal prints.
+fn shown<E: fmt::Display>(heap: Global, refusal: &E, wanted: &str) -> Result<bool, Fail> {
+    Ok(refusal.to_string(heap)?.as_str() == wanted)
+}
+
+// Each refusal is told in words, with the number of its check.
+#[test]
+fn refusals_in_words(rt: HostRuntime) -> Result<(), Fail> {
+    let heap = rt.alloc();
+    let refusal = HoldRefusal::Number;
+    let words = "check 5: the number is not 1 to 255, or a row has it";
+    assert!(rt; shown(heap, &refusal, words)?);
+    let refusal = HoldRefusal::Suspension;
+    let words =
+        "check 7: the suspension is above 1000000 ticks, or there are more than 63, or just one of the two is 0";
+    assert!(rt; shown(heap, &refusal, words)?);
+    let refusal = HoldRefusal::Deadline;
+    let words = "check 8: the deadline is 0 or above the spacing";
+    assert!(rt; shown(heap, &refusal, words)?);
+    let refusal = HoldRefusal::Late(3);
+    let words = "check 11: row 3 would be late";
+    assert!(rt; shown(heap, &refusal, words)?);
+    let refusal = SpendRefusal::NotHeld(Hold { table: 2, row: 3 });
+    let words = "check 12: the hold on row 3 of table 2 is not one that this table waits for";
+    let is_shown = shown(heap, &refusal, words);
+    let SpendRefusal::NotHeld(Hold { table: _, row: _ }) = refusal;
+    assert!(rt; is_shown?);
+    let refusal = WithdrawRefusal::NotKept;
+    assert!(rt; shown(heap, &refusal, "check 14: the row is held")?);
+    let refusal = BoundRefusal::NoSuchRow;
+    assert!(rt; shown(heap, &refusal, "check 13: no row has the number")?);
+    Ok(())
 }

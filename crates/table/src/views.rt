@@ -1,14 +1,12 @@
-// What a caller may ask of a table, of a hold and of a refusal.
+// What a caller may ask of a table.
 ghost use Rattle.std.specs.Prelude.{◌≡◌, ◌+◌, length, IfOk, Ok};
 ghost use Rattle.analysis.specs.declared.answers.Answers.{Answers as Listed};
-ghost use Rattle.analysis.specs.Judge.{Answered, InTime, answers_of};
-ghost use Rattle.analysis.specs.Ranks.{ranking, loads};
-ghost use Rattle.table.specs.Account.{Account, hold_number, spend_number, withdraw_number, bound_number};
-ghost use Rattle.table.specs.Agreement.{AgreesWith, StateOf};
+ghost use Rattle.analysis.specs.Judge.{InTime, RowsAnswered, answers_of};
+ghost use Rattle.table.specs.Agreement.{MatchesAccount, StateOf};
 ghost use Rattle.table.specs.History.{rows_at};
 
-use super::{BoundRefusal, Hold, HoldRefusal, SpendRefusal, State, Table, WithdrawRefusal};
-use analysis::{Answers, JudgeRefusal, judge};
+use super::{State, Table};
+use analysis::{Answers, JudgeRefusal};
 use demand::Kind;
 
 impl<'a, K: Kind + Drop> Table<'a, K> {
@@ -19,29 +17,29 @@ impl<'a, K: Kind + Drop> Table<'a, K> {
         self.number
     }
 
-    // How many rows the table still has room for.
+    /// How many rows the table still has room for.
     pub fn room(&self) -> usize
-        ensures { (a : Account) → AgreesWith K.demand a self.now → result + length a.rows ≡ a.room }
+        ensures { MatchesAccount K.demand (λ a. result + length a.rows ≡ a.room) self.now }
     {
-        self.used().iter().filter(|place| place.is_none()).count()
+        self.free_places()
     }
 
-    // Number, bound, vector and blocking of all rows, highest first. The rows of a table are in time, so it is never an error.
+    /// Number, bound, vector and blocking of all rows, highest priority first. The rows of a table are in time, so this is never
+    /// an error.
     pub fn answers(&self) -> Result<Answers, JudgeRefusal>
-        ensures account { (a : Account) → AgreesWith K.demand a self.now → (all : Listed) × (result ≡ Ok all) × Answered (loads (ranking a.rows)) (answers_of all) }
-        ensures in_time { IfOk result (λ all. InTime (rows_at K.demand self.now) (answers_of all)) }
+        ensures account { MatchesAccount K.demand
+            (λ a. (all : Listed) × (result ≡ Ok all) × RowsAnswered a.rows (answers_of all))
+            self.now }
+        ensures in_time { IfOk result
+            (λ all. InTime (rows_at K.demand self.now) (answers_of all)) }
     {
-        judge(self.used(), &None)
+        self.judged(&None)
     }
 
-    // Whether the row of this number is held or kept; `Free` where there is no such row.
+    /// Whether the row of this number is held or kept, and `Free` where there is no such row.
     pub fn state_of(&self, number: u32) -> State
-        ensures { (a : Account) → AgreesWith K.demand a self.now → StateOf a number result }
+        ensures { MatchesAccount K.demand (λ a. StateOf a number result) self.now }
     {
-        // A match: `map_or` was tried, and the check does not find what its closure says of the place.
-        match self.place_of(number) {
-            Some(place) => self.states[place],
-            None => State::Free,
-        }
+        self.state_here(number)
     }
 }

@@ -7,10 +7,10 @@ use Rattle.table.specs.declared.Table.{Table}
 use Rattle.table.specs.Account.{Account, HoldsAnswered, hold_part}
 use Rattle.table.specs.Agreement.{AgreesWith}
 use Rattle.table.specs.History.{Continues}
-use Rattle.std.proofs.Common.{◌≡◌, None, Some, Ok, Err, sym, refl, ap, ◌∙◌, subst, subst₂, arith, rules}
+use Rattle.std.proofs.Common.{◌≡◌, None, Some, Ok, Err, sym, refl, ap, ◌∙◌, subst₂, arith, rules}
 use Rattle.std.proofs.lemmas.Result.{err_from_is_err_and}
 use Rattle.analysis.specs.Candidates.{claims}
-use Rattle.analysis.specs.Judge.{JudgementRefused, Judged}
+use Rattle.analysis.specs.Judge.{JudgementRefused}
 use Rattle.analysis.specs.Ranks.{Claim}
 use Rattle.analysis.specs.declared.Task.{Task}
 use Rattle.table.specs.declared.refusals.HoldRefusal.TheVariants.{NoPlace}
@@ -47,8 +47,7 @@ returns-in_err-answers-clause-account g c a agrees =
     let task : Task g.row.K.Denot = record { row = c.args.row; kind = c.args.kind } in
     let some : c.place_in.result ≡ Some c.in_ok-place.place = grind (arith, c.in_ok-place.ensures.value) in
     let pass = place_found c.args.self.now agrees claim (c.in_ok-check_row.ensures a agrees) c.place_in.result c.place_in.ensures c.in_ok-place.place some in
-    let judged = subst (λ os. Judged (claims g.K.Kind.demand os (Some task)) (Err c.in_err-answers.field-0.0)) c.used.ensures c.in_err-answers.ensures.judged in
-    let refused = subst₂ (JudgementRefused (claims g.K.Kind.demand (tasks c.args.self.now) (Some task))) (sym e.2.0) (sym e.2.1) judged in
+    let refused = subst₂ (JudgementRefused (claims g.K.Kind.demand (tasks c.args.self.now) (Some task))) (sym e.2.0) (sym e.2.1) c.in_err-answers.ensures in
     (a, rw e.1 (refused_judged c.args.self.now agrees task pass e.0 refused, refl), agrees)
 
 pub returns-clause-account : goal.returns-clause-account
@@ -57,13 +56,12 @@ returns-clause-account g c a agrees =
     let task : Task g.row.K.Denot = record { row = c.args.row; kind = c.args.kind } in
     let some : c.place_in.result ≡ Some c.in_ok-place.place = grind (arith, c.in_ok-place.ensures.value) in
     let pass = place_found c.args.self.now agrees claim (c.in_ok-check_row.ensures a agrees) c.place_in.result c.place_in.ensures c.in_ok-place.place some in
-    let judged = subst (λ os. Judged (claims g.K.Kind.demand os (Some task)) (Ok c.in_ok-answers.answers)) c.used.ensures c.in_ok-answers.ensures.judged in
-    let in_time = newcomer_in_time c.args.self.now agrees task pass c.in_ok-answers.answers judged in
+    let in_time = newcomer_in_time c.args.self.now agrees task pass c.in_ok-answers.answers c.in_ok-answers.ensures in
     let at : At c.args.self.now (λ s. s ≡ Free) c.in_ok-place.place = search rules in (
       with_row a claim,
       (
         (record { passes = pass; in_time = in_time; table = c.put.ensures.number ∙ sym agrees.number_is; row = refl }, refl),
-        newcomer_listed c.args.self.now agrees task pass c.in_ok-answers.answers judged,
+        newcomer_listed c.args.self.now agrees task pass c.in_ok-answers.answers c.in_ok-answers.ensures,
       ),
       row_in c.args.self.now agrees c.put.new.self c.in_ok-place.place at task c.put.ensures (g.met.K.Kind.lawful c.args.kind) pass in_time,
     )

@@ -16,7 +16,7 @@ returns-in_err-place-clause-account g c a agrees =
 pub returns-clause-account : goal.returns-clause-account
 returns-clause-account g c a agrees =
     let here = c.in_ok-place.ensures in
-    (with_kept a c.args.hold, (may_spend c.args.self.now agrees c.args.hold c.in_ok-place.place here, refl), row_kept c.args.self.now agrees c.args.hold c.in_ok-place.place here.0 (here.1.0.0, here.1.1))
+    (with_kept a c.args.hold, (may_spend c.args.self.now agrees c.args.hold c.in_ok-place.place here, refl), row_kept c.args.self.now agrees c.mark_kept.new.self c.args.hold c.in_ok-place.place here.0 (here.1.0.0, here.1.1) c.mark_kept.ensures)
 
 pub returns-in_err-place-clause-history : goal.returns-in_err-place-clause-history
 returns-in_err-place-clause-history g c = continues g.K.Kind.demand c.args.self.now c.args.self.now (keeping c.args.hold c.from_residual.result) (returns-in_err-place-clause-account g c)
