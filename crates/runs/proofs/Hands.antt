@@ -1,5 +1,5 @@
 -- Holds that come to hand, stay and go. Assumes nothing.
-use Rattle.std.proofs.Common.{◌≡◌, ◌≢◌, ℕ, zero, suc, ◌+◌, ◌<◌, Bool, true, false, eqb, not, ◌&&◌, ◌||◌, List, [], ◌∷◌, ◌++◌, length, get_or, take, drop, None, Some, Option, Ok, Err, IsErr, IsOk, MatchResult, Result, sym, refl, ap, ◌∙◌, subst, inl, inr, arith, eqb-true}
+use Rattle.std.proofs.Common.{◌≡◌, ◌≢◌, ℕ, zero, suc, ◌+◌, ◌<◌, Bool, true, false, ◌==◌, not, ◌&&◌, ◌||◌, List, [], ◌∷◌, ◌++◌, length, slice_index_or, take, drop, None, Some, Option, Ok, Err, IsErr, IsOk, MatchResult, Result, sym, refl, ap, ◌∙◌, subst, inl, inr, arith, eqb-true}
 use Rattle.std.specs.List.{All, AllPairs, list_any, insert, position, position_from, remove}
 use Rattle.std.proofs.lemmas.Iterator.Adapters.{position_from-zero}
 use Rattle.std.proofs.lemmas.Bool.{and_from, and_parts, cases_Bool, both_ways, eq-eqb, ne_eqb, false_from_ne_true}
@@ -38,21 +38,21 @@ abbrev RowsApart : Hold → Hold → Type 0
 RowsApart g h = g.row ≢ h.row
 
 -- none of these is on the row n
-none_on : (n : ℕ) (hs : List Hold) → has_hold n hs ≡ false → (i : ℕ) (d : Hold) → i < length hs → (get_or hs i d).row ≢ n
-none_on n hs none i d l e = both_ways (has_hold n hs) none (list_any_at (is_on n) hs i d l (eq-eqb (get_or hs i d).row n e))
+none_on : (n : ℕ) (hs : List Hold) → has_hold n hs ≡ false → (i : ℕ) (d : Hold) → i < length hs → (slice_index_or hs i d).row ≢ n
+none_on n hs none i d l e = both_ways (has_hold n hs) none (list_any_at (is_on n) hs i d l (eq-eqb (slice_index_or hs i d).row n e))
 
 -- where no two are on one row, none of the rest is on the row of one that goes
-gone : (hs : List Hold) (i : ℕ) (d : Hold) → i < length hs → AllPairs RowsApart hs → (m : ℕ) → has_hold m (remove hs i) ≡ (not (eqb (get_or hs i d).row m) && has_hold m hs)
+gone : (hs : List Hold) (i : ℕ) (d : Hold) → i < length hs → AllPairs RowsApart hs → (m : ℕ) → has_hold m (remove hs i) ≡ (not ((slice_index_or hs i d).row == m) && has_hold m hs)
 gone [] i d l apart m = absurd (omega arith)
-gone (h ∷ hs) zero d l apart m = elim (cases_Bool (eqb h.row m)) [
-  | inl e ↦ rw e (list_any_none (is_on m) hs (λ k x q. ne_eqb (get_or hs k x).row m (λ f. apart 0 (suc k) x (omega arith) (omega arith) (eqb-true h.row m e ∙ sym f))))
+gone (h ∷ hs) zero d l apart m = elim (cases_Bool (h.row == m)) [
+  | inl e ↦ rw e (list_any_none (is_on m) hs (λ k x q. ne_eqb (slice_index_or hs k x).row m (λ f. apart 0 (suc k) x (omega arith) (omega arith) (eqb-true h.row m e ∙ sym f))))
   | inr e ↦ rw e refl
 ]
 gone (h ∷ hs) (suc i) d l apart m =
     let rest = gone hs i d (omega arith) (λ j k x below q. apart (suc j) (suc k) x (omega arith) (omega arith)) m in
-    elim (cases_Bool (eqb h.row m)) [
+    elim (cases_Bool (h.row == m)) [
       | inl e ↦
-          let other : eqb (get_or hs i d).row m ≡ false = ne_eqb (get_or hs i d).row m (λ f. apart 0 (suc i) d (omega arith) l (eqb-true h.row m e ∙ sym f)) in
+          let other : ((slice_index_or hs i d).row == m) ≡ false = ne_eqb (slice_index_or hs i d).row m (λ f. apart 0 (suc i) d (omega arith) l (eqb-true h.row m e ∙ sym f)) in
           rw (e, other) refl
       | inr e ↦ rw e rest
     ]
@@ -84,20 +84,20 @@ module _ {K : Type 0} (t u : Table K) (hs : List Hold) (known : InHand t hs) whe
     apart = all_pairs_push RowsApart hs h known.apart (λ k d l q. none_on n hs (sym (known.exactly n) ∙ given.was) k d l (q ∙ given.row));
     exactly = λ m.
         given.held m
-        ∙ ap (λ b. eqb n m || b) (known.exactly m)
-        ∙ flip (eqb n m) (has_hold m hs)
-        ∙ ap (λ k. has_hold m hs || (eqb k m || false)) (sym given.row)
+        ∙ ap (λ b. (n == m) || b) (known.exactly m)
+        ∙ flip (n == m) (has_hold m hs)
+        ∙ ap (λ k. has_hold m hs || ((k == m) || false)) (sym given.row)
         ∙ sym (list_any-append (is_on m) hs (h ∷ []));
   }
 
-  pub one_less : (i : ℕ) (h : Hold) → i < length hs → h ≡ get_or hs i h → SpendsHoldOn t u h → InHand u (remove hs i)
+  pub one_less : (i : ℕ) (h : Hold) → i < length hs → h ≡ slice_index_or hs i h → SpendsHoldOn t u h → InHand u (remove hs i)
   one_less i h l is spent = record {
     own = left (λ x. x.table ≡ u.number) hs i (own_still (number_stays spent.frame));
     apart = all_pairs_remove RowsApart hs i l known.apart;
     exactly = λ m.
         spent.held m
-        ∙ ap (λ b. not (eqb h.row m) && b) (known.exactly m)
-        ∙ ap (λ (x : Hold). not (eqb x.row m) && has_hold m hs) is
+        ∙ ap (λ b. not (h.row == m) && b) (known.exactly m)
+        ∙ ap (λ (x : Hold). not (x.row == m) && has_hold m hs) is
         ∙ sym (gone hs i h l known.apart m);
   }
 
@@ -106,7 +106,7 @@ last_gone : (hs : List Hold) (h : Hold) → remove (hs ++ h ∷ []) (length hs) 
 last_gone [] h = refl
 last_gone (x ∷ hs) h = ap (λ ys. x ∷ ys) (last_gone hs h)
 
-last_there : (hs : List Hold) (h : Hold) → (length hs < length (hs ++ h ∷ [])) × (h ≡ get_or (hs ++ h ∷ []) (length hs) h)
+last_there : (hs : List Hold) (h : Hold) → (length hs < length (hs ++ h ∷ [])) × (h ≡ slice_index_or (hs ++ h ∷ []) (length hs) h)
 last_there [] h = (omega arith, refl)
 last_there (x ∷ hs) h = let rest = last_there hs h in (omega (arith, rest.0), rest.1)
 
@@ -133,15 +133,15 @@ module _ (table n : ℕ) where
         let some = Any-from_list_any (is_on n) hs q in
         let h : Hold = some.1 in
         both_ways (list_any (is_token table n) hs) (place_none 0 hs (sym (position_from-zero (is_token table n) hs) ∙ found_is ∙ e))
-        (list_any_at (is_token table n) hs some.0 h some.2 (and_from (eqb (get_or hs some.0 h).table table) (eqb (get_or hs some.0 h).row n)
-        (eq-eqb (get_or hs some.0 h).table table (own some.0 h some.2))
+        (list_any_at (is_token table n) hs some.0 h some.2 (and_from ((slice_index_or hs some.0 h).table == table) ((slice_index_or hs some.0 h).row == n)
+        (eq-eqb (slice_index_or hs some.0 h).table table (own some.0 h some.2))
         (rw some.3 some.4))))
 
-    pub found_there : (i : ℕ) (h : Hold) → r ≡ Some i → h ≡ get_or hs i h → (i < length hs) × (h.table ≡ table) × (h.row ≡ n)
+    pub found_there : (i : ℕ) (h : Hold) → r ≡ Some i → h ≡ slice_index_or hs i h → (i < length hs) × (h.table ≡ table) × (h.row ≡ n)
     found_there i h e is =
         let there = position-Some (is_token table n) hs i h (found_is ∙ e) in
-        let both = and_parts (eqb (get_or hs i h).table table) (eqb (get_or hs i h).row n) there.1 in
-        (there.0, ap (λ (x : Hold). x.table) is ∙ eqb-true (get_or hs i h).table table both.0, ap (λ (x : Hold). x.row) is ∙ eqb-true (get_or hs i h).row n both.1)
+        let both = and_parts ((slice_index_or hs i h).table == table) ((slice_index_or hs i h).row == n) there.1 in
+        (there.0, ap (λ (x : Hold). x.table) is ∙ eqb-true (slice_index_or hs i h).table table both.0, ap (λ (x : Hold). x.row) is ∙ eqb-true (slice_index_or hs i h).row n both.1)
 
 module _ {K : Type 0} (demand : K → Demand) (t : Table K) (way : Way) where
   -- a hold on a row that does not stand as held, or of another table, is refused
@@ -176,18 +176,18 @@ refused_with t u h (Ok x) e m is = cc
 refused_with t u h (Err d) e m is = ap Err (back_is h d m.same)
 
 -- a hold that is put back where it was
-pub put_back : {A : Type 0} (xs : List A) (i : ℕ) (x : A) → i < length xs → x ≡ get_or xs i x → insert (remove xs i) i x ≡ xs
+pub put_back : {A : Type 0} (xs : List A) (i : ℕ) (x : A) → i < length xs → x ≡ slice_index_or xs i x → insert (remove xs i) i x ≡ xs
 put_back [] i x l is = absurd (omega arith)
 put_back (y ∷ xs) zero x l is = ap (λ z. z ∷ xs) is
 put_back (y ∷ xs) (suc i) x l is = ap (λ zs. y ∷ zs) (put_back xs i x (omega arith) is)
 
 -- a hold in hand is spent without refusal
-module _ {K : Type 0} (t u : Table K) (hs : List Hold) (known : InHand t hs) (i : ℕ) (h : Hold) (within : i < length hs) (is : h ≡ get_or hs i h) where
+module _ {K : Type 0} (t u : Table K) (hs : List Hold) (known : InHand t hs) (i : ℕ) (h : Hold) (within : i < length hs) (is : h ≡ slice_index_or hs i h) where
   pub own_number : h.table ≡ t.number
   own_number = ap (λ (x : Hold). x.table) is ∙ known.own i h within
 
   stands_held : has_held t h.row ≡ true
-  stands_held = known.exactly h.row ∙ list_any_at (is_on h.row) hs i h within (eq-eqb (get_or hs i h).row h.row (ap (λ (x : Hold). x.row) (sym is)))
+  stands_held = known.exactly h.row ∙ list_any_at (is_on h.row) hs i h within (eq-eqb (slice_index_or hs i h).row h.row (ap (λ (x : Hold). x.row) (sym is)))
 
   pub not_handed_back : (r : Result (Unit {0}) SpendRefusal) → MatchResult r (λ _. SpendsHoldOn t u h) (HandsBack t u h) → IsOk r
   not_handed_back (Ok x) m = refl
