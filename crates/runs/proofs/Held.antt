@@ -1,12 +1,11 @@
 -- Which rows stand as held after a call. Assumes nothing.
-use Rattle.std.proofs.Common.{◌≡◌, ℕ, List, Option, Bool, true, false, ◌==◌, not, ◌&&◌, ◌||◌, MatchResult, Ok, Err, Result, sym, ap, ◌∙◌, subst, inl, inr, arith, eqb-true}
+use Rattle.std.proofs.Common.{◌≡◌, ℕ, Bool, true, false, ◌==◌, not, ◌&&◌, ◌||◌, MatchResult, Ok, Err, Result, sym, ap, ◌∙◌, subst, inl, inr, arith, eqb-true}
 use Rattle.std.proofs.Math.Logic.{∥∥₁_elim}
 use Rattle.std.specs.Coded.{Coded-set, coded_bool, coded_ℕ}
 use Rattle.std.proofs.lemmas.Bool.Decides.{nat_tests}
 use Rattle.std.proofs.lemmas.Bool.{cases_Bool, both_ways, false_from_ne_true}
 use Rattle.demand.specs.Demand.{Demand}
 use Rattle.demand.specs.Refusals.{first}
-use Rattle.analysis.specs.declared.Task.{Task}
 use Rattle.analysis.specs.Ranks.{Claim}
 use Rattle.table.specs.declared.hold.Hold.{Hold}
 use Rattle.table.specs.declared.refusals.HoldRefusal.{HoldRefusal}
@@ -22,6 +21,7 @@ use Rattle.table.proofs.InHand.{IsAccounted, Turns, has_held_is, none_has, same_
 use Rattle.table.proofs.Parts.{others_stay, unspent_own, unspent_row}
 use Rattle.table.proofs.Shared.{passed}
 use Rattle.table.proofs.Spending.{spent_gone}
+use Rattle.runs.proofs.Frame.{same_number}
 use Rattle.runs.specs.Holds.{frame_of, GivesHoldOn, HandsBack, SameHeld, SpendsHoldOn}
 
 module _ {K : Type 0} (demand : K → Demand) (t u : Table K) (known : IsAccounted demand t) where
@@ -32,10 +32,6 @@ module _ {K : Type 0} (demand : K → Demand) (t u : Table K) (known : IsAccount
   test_from : (x y : Bool) → ((a : Account) → AgreesWith demand a t → x ≡ y) → x ≡ y
   test_from x y f = ∥∥₁_elim known (Coded-set coded_bool _ _) (λ k. f k.account k.agrees)
 
-  -- the number of a table is part of its frame
-  same_number : frame_of u ≡ frame_of t → u.number ≡ t.number
-  same_number frame = ap (λ (x : Account × ℕ × List (Option (Task K))). x.0.number) frame
-
   -- the same holds are unspent
   same_held : (R : Account → Account → Type 0) → Turns demand t u R → frame_of u ≡ frame_of t → ((a b : Account) → R a b → b.holds ≡ a.holds) → SameHeld t u
   same_held R turns frame same = record {
@@ -44,13 +40,13 @@ module _ {K : Type 0} (demand : K → Demand) (t u : Table K) (known : IsAccount
         let p = turns a agrees in
         has_held_is u p.2 n
         ∙ ap (unspent u.number n) (same a p.0 p.1)
-        ∙ ap (λ m. unspent m n a.holds) (same_number frame)
+        ∙ ap (λ m. unspent m n a.holds) (same_number t u frame)
         ∙ sym (has_held_is t agrees n));
   }
 
   pub gives : (c : Claim) (r : Result Hold HoldRefusal) → Turns demand t u (λ a b. Holds a c r b) → frame_of u ≡ frame_of t → MatchResult r (GivesHoldOn t u (number_of c)) (λ e. SameHeld t u)
   gives c (Ok h) turns frame =
-      let number = same_number frame in
+      let number = same_number t u frame in
       record {
         frame = frame;
         table = number_from h.table t.number (λ a agrees. (turns a agrees).1.0.table ∙ agrees.number_is);
@@ -75,7 +71,7 @@ module _ {K : Type 0} (demand : K → Demand) (t u : Table K) (known : IsAccount
   -- keep and release, where `after` is the account with the hold spent
   pub spends : (h : Hold) (after : Account → Account) → ((a : Account) → (after a).holds ≡ spent h.table h.row a.holds) → (r : Result (Unit {0}) SpendRefusal) → Turns demand t u (λ a b. Spends a h (after a) r b) → frame_of u ≡ frame_of t → MatchResult r (λ _. SpendsHoldOn t u h) (HandsBack t u h)
   spends h after holds_after (Ok x) turns frame =
-      let number = same_number frame in
+      let number = same_number t u frame in
       record {
         frame = frame;
         table = number_from h.table t.number (λ a agrees. owned a agrees (turns a agrees).1.0 ∙ agrees.number_is);

@@ -70,6 +70,10 @@ abbrev pub spending : Way → Token → Result (Unit {0}) SpendRefusal → Event
 spending KeepRow h r = keeping h r
 spending GiveUp h r = releasing h r
 
+-- the hold was spent in one of the two ways
+abbrev pub spend_of : Way → Token → Event
+spend_of way h = spending way h (Ok tt)
+
 -- the hold was released
 abbrev pub release_of : Token → Event
 release_of h = releasing h (Ok tt)

@@ -224,7 +224,7 @@ impl<'a, K: Kind + Drop> Desk<'a, K> {
             mut holds,
         } = self;
         while let Some(hold) = holds.pop() {
-            register.spend(Way::GiveUp, hold).unwrap();
+            register.give_up(hold);
         }
         holds.destroy_empty();
         let Register { table } = register;
@@ -290,7 +290,7 @@ impl<'a, K: Kind + Drop> Desk<'a, K> {
     {
         let place = place_of(&self.holds, id).ok_or(NotHeld)?;
         let hold = self.holds.remove(place);
-        self.register.spend(way, hold).unwrap();
+        self.register.spend_held(way, hold);
         Ok(())
     }
 

@@ -1,5 +1,5 @@
 // A table that only its own calls have changed, with no hold in hand.
-ghost use Rattle.std.specs.Prelude.{◌≡◌, min, [], length, MatchResult, OnErr};
+ghost use Rattle.std.specs.Prelude.{◌≡◌, min, [], length, IsTrue, MatchResult, OnErr};
 ghost use Rattle.analysis.specs.declared.TheConstants.{MOST_ROWS};
 ghost use Rattle.analysis.specs.Candidates.{claim_with};
 ghost use Rattle.analysis.specs.Judge.{InTime, RowsAnswered, answers_of};
@@ -7,8 +7,9 @@ ghost use Rattle.table.specs.Account.{fresh};
 ghost use Rattle.table.specs.Agreement.{AgreesWith, FollowsAccount, MatchesAccount};
 ghost use Rattle.table.specs.History.{Continues, HasHistory, HasSomeHistory, rows_at};
 ghost use Rattle.table.specs.Memory.{Emptied, SameTable};
+ghost use Rattle.table.specs.Places.{has_held};
 ghost use Rattle.table.specs.Runs.{holding, withdrawing, bounding};
-ghost use Rattle.runs.specs.Calls.{ContinuesBy, spending};
+ghost use Rattle.runs.specs.Calls.{ContinuesBy, release_of, spend_of, spending};
 ghost use Rattle.runs.specs.Holds.{frame_of, SameHeld, GivesHoldOn, SpendsHoldOn, HandsBack};
 ghost use Rattle.runs.specs.Passing.{KeepsRow, GivesRowUp, Passes, passing};
 
@@ -134,6 +135,26 @@ impl<'a, K: Kind + Drop> Register<'a, K> {
             Way::KeepRow => self.table.keep(hold),
             Way::GiveUp => self.table.release(hold),
         }
+    }
+
+    // Spends a hold of this table whose row is held.
+    pub(crate) fn spend_held(&mut self, way: Way, hold: Hold)
+        requires own { hold.table ≡ self.old.table.number }
+        requires held { IsTrue (has_held self.old.table hold.row) }
+        ensures history { Continues K.demand (spend_of way hold) self.old.table self.new.table }
+        ensures held { SpendsHoldOn self.old.table self.new.table hold }
+    {
+        self.spend(way, hold).unwrap();
+    }
+
+    // Gives up a hold of this table whose row is held: the row goes out.
+    pub(crate) fn give_up(&mut self, hold: Hold)
+        requires own { hold.table ≡ self.old.table.number }
+        requires held { IsTrue (has_held self.old.table hold.row) }
+        ensures history { Continues K.demand (release_of hold) self.old.table self.new.table }
+        ensures held { SpendsHoldOn self.old.table self.new.table hold }
+    {
+        self.spend_held(Way::GiveUp, hold);
     }
 
     // Takes a kept row out.
