@@ -1,5 +1,5 @@
 -- What comes of a line of which only the front is kept, and of the end of a log. Assumes nothing.
-use Rattle.std.proofs.Common.{◌≡◌, ◌≢◌, ℕ, ◌+◌, ◌-◌, ◌<◌, Bool, true, false, not, ◌&&◌, ◌||◌, cond, List, [], ◌∷◌, ◌++◌, length, take, drop, nat_lt, sym, refl, ap, ◌∙◌, subst, inl, inr, arith, ltb-false, append_assoc}
+use Rattle.std.proofs.Common.{◌≡◌, ◌≢◌, ℕ, ◌+◌, ◌-◌, ◌<◌, Bool, true, false, not, ◌&&◌, ◌||◌, if◌then◌else◌, List, [], ◌∷◌, ◌++◌, length, take, drop, nat_lt, sym, refl, ap, ◌∙◌, subst, inl, inr, arith, ltb-false, append_assoc}
 use Rattle.std.proofs.lemmas.Bool.{cases_Bool}
 use Rattle.std.proofs.lemmas.Bool.Decides.{nat_tests}
 use Rattle.std.proofs.lemmas.List.{append-nil, length-take, take_all}
@@ -8,6 +8,7 @@ use Rattle.planfile.specs.Fault.{by, first_blame}
 use Rattle.planfile.specs.Requests.{clock_line_checks, end_checks, opening_checks, request_checks}
 use Rattle.planfile.specs.Text.{ended, newline, parted_by}
 use Rattle.planfile.proofs.Parted.{ended_line, parted_at, some_part}
+use Rattle.call_log.specs.Counting.{kept_of}
 use Rattle.call_log.specs.Logs.{Stage, table_due, clock_due, evening, over, Turn, Checked, LineSays, LogSays, end_says, refuses, says}
 use Rattle.call_log.specs.Reading.{BeginsWith, Leads, OnePiece}
 
@@ -17,7 +18,7 @@ IsCut text = (nat_lt 4096 (length text) || not (ended text)) ≡ true
 
 -- then it is refused by 18
 blamed : (text : List ℕ) (more : List (Bool × Blame)) → IsCut text → first_blame (end_checks text ++ more) ≡ by 18
-blamed text more cut = ap (λ b. cond b (by 18) (first_blame more)) cut
+blamed text more cut = ap (λ b. if b then by 18 else first_blame more) cut
 
 -- where a log stands after such a line
 abbrev pub stays : Stage → Stage
@@ -62,16 +63,16 @@ cut_says over k text turn cut c = c
 long_cut : (text : List ℕ) → 4096 < length text → IsCut text
 long_cut text long = grind (arith, nat_tests)
 
-kept_cut : (line : List ℕ) → 4096 < length line → IsCut (take 4097 line)
-kept_cut line long = long_cut (take 4097 line) (omega (arith, length-take 4097 line))
+kept_cut : (line : List ℕ) → 4096 < length line → IsCut (kept_of line)
+kept_cut line long = long_cut (kept_of line) (omega (arith, length-take 4097 line))
 
 -- a line is answered by what is kept of it
-pub says_whole : (s : Stage) (k : ℕ) (line : List ℕ) (turn : Turn) → LineSays s k (take 4097 line) turn → LineSays s k line turn
+pub says_whole : (s : Stage) (k : ℕ) (line : List ℕ) (turn : Turn) → LineSays s k (kept_of line) turn → LineSays s k line turn
 says_whole s k line turn c =
     elim (cases_Bool (nat_lt 4096 (length line))) [
       | inl e ↦
           let long : 4096 < length line = grind (arith, nat_tests) in
-          subst (LineSays s k line) (sym (cut_says s k (take 4097 line) turn (kept_cut line long) c)) (says_cut s k line (long_cut line long))
+          subst (LineSays s k line) (sym (cut_says s k (kept_of line) turn (kept_cut line long) c)) (says_cut s k line (long_cut line long))
       | inr e ↦ subst (λ text. LineSays s k text turn) (take_all 4097 line (omega (arith, ltb-false 4096 (length line) e))) c
     ]
 
@@ -93,7 +94,7 @@ any_or true = refl
 any_or false = refl
 
 -- a line that has no newline is cut
-open_cut : (line : List ℕ) → OnePiece line → IsCut (take 4097 line)
+open_cut : (line : List ℕ) → OnePiece line → IsCut (kept_of line)
 open_cut line one =
     elim (cases_Bool (nat_lt 4096 (length line))) [
       | inl e ↦ kept_cut line (grind (arith, nat_tests))

@@ -3,6 +3,7 @@ use Rattle.std.proofs.Common.{◌≡◌, ◌≢◌, ℕ, zero, suc, List, [], �
 use Rattle.std.proofs.lemmas.List.{append-nil}
 use Rattle.planfile.specs.Text.{newline}
 use Rattle.planfile.proofs.Parted.{parted_on}
+use Rattle.call_log.specs.Counting.{kept_of}
 use Rattle.call_log.specs.Reading.{BeginsWith, OnePiece}
 
 -- a text with a byte is not empty
@@ -21,23 +22,23 @@ pub one_on : (front : List ℕ) (b : ℕ) → b ≢ newline → OnePiece front �
 one_on front b other one = parted_on newline b front [] front other one
 
 -- the newline of a line
-pub at_newline : (xs front rest kept : List ℕ) (b : ℕ) → b ≡ newline → xs ≡ front ++ b ∷ rest → kept ≡ take 4097 (front ++ b ∷ []) → OnePiece front → BeginsWith xs kept rest
+pub at_newline : (xs front rest kept : List ℕ) (b : ℕ) → b ≡ newline → xs ≡ front ++ b ∷ rest → kept ≡ kept_of (front ++ b ∷ []) → OnePiece front → BeginsWith xs kept rest
 at_newline xs front rest kept b is whole first one =
     record {
       line = front ++ newline ∷ [];
       whole = whole ∙ (ap (λ n. front ++ n ∷ rest) is ∙ sym (append_assoc front (newline ∷ []) rest));
-      front = first ∙ ap (λ n. take 4097 (front ++ n ∷ [])) is;
+      front = first ∙ ap (λ n. kept_of (front ++ n ∷ [])) is;
       ends = inl (front, refl, one);
     }
 
 -- the end of a log
-pub at_end : (xs front kept : List ℕ) → xs ≡ front → kept ≡ take 4097 front → OnePiece front → BeginsWith xs kept [] ⊎ ((xs ≡ []) × (kept ≡ []) × (◌≡◌ {A = List ℕ} [] []))
+pub at_end : (xs front kept : List ℕ) → xs ≡ front → kept ≡ kept_of front → OnePiece front → BeginsWith xs kept [] ⊎ ((xs ≡ []) × (kept ≡ []) × (◌≡◌ {A = List ℕ} [] []))
 at_end xs [] kept whole is one = inr (whole, is, refl)
 at_end xs (b ∷ front) kept whole is one =
     inl (record { line = b ∷ front; whole = whole ∙ sym (append-nil (b ∷ front)); front = is; ends = inr (one, some b front, refl) })
 
 -- something is kept of each line
-none_kept : (line : List ℕ) → [] ≡ take 4097 line → line ≡ []
+none_kept : (line : List ℕ) → [] ≡ kept_of line → line ≡ []
 none_kept [] e = refl
 none_kept (b ∷ line) e = absurd (some b _ (sym e))
 

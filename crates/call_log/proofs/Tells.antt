@@ -12,7 +12,7 @@ use Rattle.planfile.proofs.Blames.{fault_numbered}
 use Rattle.planfile.specs.Text.{newline, parted_by}
 use Rattle.call_log.specs.declared.log.Log.{Log}
 use Rattle.call_log.specs.Logs.{Stage, over, Checked, LineSays, LogSays, end_says, refuses, says}
-use Rattle.call_log.specs.Reading.{Leads, LineRead, LineTold, SameLog, Tells, left_of}
+use Rattle.call_log.specs.Reading.{Leads, ReadsLine, AnswersLine, SameLog, Tells, left_of}
 use Rattle.planfile.proofs.Parted.{some_part}
 use Rattle.call_log.proofs.Lines.{end_leads, over_says, turn_leads}
 
@@ -57,14 +57,14 @@ read_err checks x f r read is = subst (λ q. Reads checks x q) is read
 
 module _ {R : Type 0} {reads : Ghosts R} where
   -- a line is answered with a text, or with none
-  pub told_text : (l : Log R reads) (A B : Option (List ℕ)) (s t : Stage) (said : List ℕ) → Appends A B said → LineSays s l.number l.line.items (says said t) → LineTold l l A B s t
+  pub told_text : (l : Log R reads) (A B : Option (List ℕ)) (s t : Stage) (said : List ℕ) → Appends A B said → LineSays s l.number l.line.items (says said t) → AnswersLine l l A B s t
   told_text l A B s t said told line =
-      record { turn = says said t; says = line; told = told; well_formed = and_true l.well_formed; next = refl; number = refl; left = refl }
+      record { turn = says said t; says = line; told = told; well_formed = and_true l.well_formed; next = refl; same = record { line = refl; number = refl; left = refl; to_come = refl } }
 
   -- a line is refused
-  pub told_refused : (l m : Log R reads) (A B : Option (List ℕ)) (s t : Stage) (b : Blame) → SameLog l m → m.well_formed ≡ false → Appends A B (refusal_line (at_line l.number b)) → LineSays s l.number l.line.items (refuses l.number b t) → LineTold l m A B s t
+  pub told_refused : (l m : Log R reads) (A B : Option (List ℕ)) (s t : Stage) (b : Blame) → SameLog l m → m.well_formed ≡ false → Appends A B (refusal_line (at_line l.number b)) → LineSays s l.number l.line.items (refuses l.number b t) → AnswersLine l m A B s t
   told_refused l m A B s t b same ill told line =
-      record { turn = refuses l.number b t; says = line; told = told; well_formed = ill ∙ and_false l.well_formed; next = refl; number = same.number; left = same.left }
+      record { turn = refuses l.number b t; says = line; told = told; well_formed = ill ∙ and_false l.well_formed; next = refl; same = same }
 
   -- one thing after the other
   pub tells_more : (l m n : Log R reads) (A B C : Option (List ℕ)) (s t u : Stage) → Tells l m A B s t → Tells m n B C t u → Tells l n A C s u
@@ -83,24 +83,28 @@ module _ {R : Type 0} {reads : Ghosts R} where
       )
 
   -- a line is read and answered
-  pub tells_line : (l m n : Log R reads) (A B : Option (List ℕ)) (s t : Stage) → LineRead l true m → m.number ≡ l.number + 1 → m.well_formed ≡ l.well_formed → LineTold m n A B s t → Tells l n A B s t
+  pub tells_line : (l m n : Log R reads) (A B : Option (List ℕ)) (s t : Stage) → ReadsLine l true m → m.number ≡ l.number + 1 → m.well_formed ≡ l.well_formed → AnswersLine m n A B s t → Tells l n A B s t
   tells_line l m n A B s t read number ill told xs known =
       let r = read xs known in
       let turn = told.turn in
       let line : LineSays s (l.number + 1) m.line.items turn = subst (λ k. LineSays s k m.line.items turn) number told.says in
       let leads : Leads s (l.number + 1) xs turn.said turn.well_formed turn.next ((l.number + 1) + 1) r.0 = turn_leads s (l.number + 1) xs m.line.items r.0 r.2 turn line in (
         r.0,
-        told.left ∙ r.1,
+        told.same.left ∙ r.1,
         turn.said,
         turn.well_formed,
         told.told,
         told.well_formed ∙ ap (λ b. b && turn.well_formed) ill,
-        subst (λ j. Leads s (l.number + 1) xs turn.said turn.well_formed t j r.0) (ap (λ k. k + 1) (sym number ∙ sym told.number))
+        subst (λ j. Leads s (l.number + 1) xs turn.said turn.well_formed t j r.0) (ap (λ k. k + 1) (sym number ∙ sym told.same.number))
             (subst (λ next. Leads s (l.number + 1) xs turn.said turn.well_formed next ((l.number + 1) + 1) r.0) told.next leads),
       )
 
+  -- the same behind what was said till then
+  pub tells_next : (first l m n : Log R reads) (A B C : Option (List ℕ)) (s t u : Stage) → Tells first l A B s t → ReadsLine l true m → m.number ≡ l.number + 1 → m.well_formed ≡ l.well_formed → AnswersLine m n B C t u → Tells first n A C s u
+  tells_next first l m n A B C s t u so_far read number ill told = tells_more first l n A B C s t u so_far (tells_line l m n B C t u read number ill told)
+
   -- the end of a log is told
-  pub tells_end : (l m : Log R reads) (A B : Option (List ℕ)) (s : Stage) → LineRead l false m → Appends A B (end_says s (l.number + 1) []).said → m.well_formed ≡ (l.well_formed && (end_says s (l.number + 1) []).well_formed) → Tells l m A B s over
+  pub tells_end : (l m : Log R reads) (A B : Option (List ℕ)) (s : Stage) → ReadsLine l false m → Appends A B (end_says s (l.number + 1) []).said → m.well_formed ≡ (l.well_formed && (end_says s (l.number + 1) []).well_formed) → Tells l m A B s over
   tells_end l m A B s read told well_formed xs known =
       let r = read xs known in
       ([], r.1, (end_says s (l.number + 1) []).said, (end_says s (l.number + 1) []).well_formed, told, well_formed, subst (Leads s (l.number + 1) xs _ _ over (m.number + 1)) r.0 (end_leads s (l.number + 1) (m.number + 1) xs r.0))

@@ -2,11 +2,12 @@
 -- How to read it: from one line (`LineSays`) to all of them (`LogSays`). A log is a list of bytes; its pieces are what newlines part, so each piece
 -- but the last is a line, and the last is empty where the log ends with a newline. k is the number of a line, counted from 1. A `Turn` is what
 -- comes of one: what is said, whether the line was well formed, and where the log stands then.
-use Rattle.std.specs.Prelude.{◌≡◌, ◌≢◌, ℕ, ◌+◌, Bool, true, false, ◌&&◌, ◌⊎◌, List, [], ◌∷◌, ◌++◌, Some}
+use Rattle.std.specs.Prelude.{◌≡◌, ◌≢◌, ℕ, ◌+◌, Bool, true, false, ◌&&◌, ◌⊎◌, List, [], ◌∷◌, ◌++◌, Some, Option}
+use Rattle.std.specs.Io.KnownBytes.{Appends}
+use Rattle.std.specs.List.{flat_map}
 use Rattle.demand.specs.declared.factor.Factor.{Factor}
 use Rattle.analysis.specs.declared.Answer.{Answer}
-use Rattle.analysis.specs.Judge.{Answered}
-use Rattle.analysis.specs.Ranks.{loads, ranking}
+use Rattle.analysis.specs.Judge.{RowsAnswered}
 use Rattle.table.specs.Account.{Account, fresh, held}
 use Rattle.table.specs.Runs.{Event, Step, after}
 use Rattle.runs.specs.declared.call.Reply.{Reply}
@@ -51,8 +52,7 @@ Checked k b s turn More = ((b.number ≢ 0) × (turn ≡ refuses k b s)) ⊎ ((b
 
 -- the lines of these rows, and whether each is held: its hold is unspent
 abbrev pub rows_text : Account → List Answer → List ℕ
-rows_text a [] = []
-rows_text a (x ∷ xs) = row_response x (held x.number a.holds) ++ rows_text a xs
+rows_text a answers = flat_map (λ x. row_response x (held x.number a.holds)) answers
 
 -- What comes of line k where a table line is due, which is this text with its newline.
 abbrev pub TableSays : ℕ → List ℕ → Turn → Type 0
@@ -69,7 +69,7 @@ RequestSays clock a k text (Call c) turn =
     × (turn ≡ says (response_line (response_of k (call_row c) r)) (evening clock (after a e)))
 -- all rows are told, highest first, with what is answered for them
 RequestSays clock a k text Rows turn =
-    ∥ ((all : List Answer) × Answered (loads (ranking a.rows)) all × (turn ≡ says (rows_text a all) (evening clock a))) ∥₁
+    ∥ ((all : List Answer) × RowsAnswered a.rows all × (turn ≡ says (rows_text a all) (evening clock a))) ∥₁
 
 -- What comes of line k, which is this text with its newline.
 abbrev pub LineSays : Stage → ℕ → List ℕ → Turn → Type 0
@@ -104,3 +104,8 @@ LogSays s k (line ∷ next ∷ rest) said ok =
 -- what is written for a whole log, and whether all of its lines were well formed
 abbrev pub Replayed : List ℕ → List ℕ → Bool → Type 0
 Replayed log said ok = LogSays table_due 1 (parted_by newline log) said ok
+
+-- A log was answered: where its bytes are known, what is written for it was appended to what was written before.
+abbrev pub AnswersLog : Option (List ℕ) → Option (List ℕ) → Option (List ℕ) → Bool → Type 0
+AnswersLog log before after ok =
+    (bytes : List ℕ) → log ≡ Some bytes → (said : List ℕ) × Appends before after said × Replayed bytes said ok

@@ -1,17 +1,14 @@
-// A log, answered line by line.
-ghost use Rattle.std.specs.Prelude.{◌≡◌, ℕ, ◌+◌, ◌≤◌, List, ◌∷◌, Some, IfOk, IfSome, OnOk, MatchBool, true, false};
+//! A log, answered line by line: [`replay`], and those methods of [`Log`] that answer what it reads.
+ghost use Rattle.std.specs.Prelude.{◌≡◌, ◌+◌, ◌≤◌, IfOk, IfSome, OnOk, false};
 ghost use Rattle.std.specs.Io.KnownBytes.{Appends};
-ghost use Rattle.table.specs.History.{HasHistory, account_of};
-ghost use Rattle.table.specs.Runs.{Event};
-ghost use Rattle.runs.specs.declared.call.Reply.{Reply as Answer};
-ghost use Rattle.runs.specs.Calls.{IsEvent, call_row};
+ghost use Rattle.analysis.specs.declared.TheConstants.{MOST_ROWS};
 ghost use Rattle.runs.specs.Desk.{table_of};
 ghost use Rattle.runs.specs.Holds.{frame_of};
-ghost use Rattle.planfile.specs.Checks.{row_demand};
-ghost use Rattle.planfile.specs.Fault.{at_line, by, line_blame};
+ghost use Rattle.planfile.specs.Fault.{at_line, line_blame};
 ghost use Rattle.planfile.specs.Report.{refusal_line};
-ghost use Rattle.planfile.specs.Responses.{response_line, response_of};
-ghost use Rattle.call_log.specs.Logs.{Replayed, clock_due, evening, table_due};
+ghost use Rattle.planfile.specs.Responses.{response_line};
+ghost use Rattle.call_log.specs.Logs.{AnswersLog, clock_due, table_due};
+ghost use Rattle.call_log.specs.Reading.{TellsCall};
 
 use super::log::Log;
 use super::rows::tell_rows;
@@ -52,11 +49,8 @@ fn make_call<W: Write>(
     line: u64,
     call: Call<RowKind>,
 ) -> io::Result<()>
-    ensures told { OnOk result ((es : List Event) → HasHistory row_demand es (table_of desk.old)
-        → (r : Answer) × (e : Event) × IsEvent row_demand (table_of desk.new).number call r e
-        × HasHistory row_demand (e ∷ es) (table_of desk.new)
-        × Appends (W.contents out.old) (W.contents out.new)
-        (response_line (response_of line (call_row call) r))) }
+    ensures told { OnOk result (TellsCall line call (table_of desk.old) (table_of desk.new)
+        (W.contents out.old) (W.contents out.new)) }
     ensures frame { frame_of (table_of desk.new) ≡ frame_of (table_of desk.old) }
 {
     let row = call.row();
@@ -65,7 +59,7 @@ fn make_call<W: Write>(
 }
 
 impl<R: Read + Drop> Log<R> {
-    ghost use Rattle.call_log.specs.Reading.{LineRead, LineTold, SameLog, Tells, bytes_left_of, clock_stage, due_count, due_stage, stage_after, FewPlaces};
+    ghost use Rattle.call_log.specs.Reading.{AnswersInEvening, AnswersLine, FewPlaces, ReadsDue, SameLog, Tells, bytes_left_of, clock_stage, due_count, due_stage};
 
     // Refuses the line of this number.
     fn refuse<W: Write>(
@@ -86,12 +80,8 @@ impl<R: Read + Drop> Log<R> {
 
     // Reads a line that is due. Where none comes the log is refused.
     fn read_due<W: Write>(&mut self, heap: Global, out: &mut W) -> io::Result<bool>
-        ensures line { IfOk result (λ more. MatchBool more
-            (LineRead self.old true self.new × (self.new.number ≡ self.old.number + 1)
-            × (self.new.well_formed ≡ self.old.well_formed)
-            × (W.contents out.new ≡ W.contents out.old))
-            (LineRead self.old false self.new × (self.new.well_formed ≡ false)
-            × Appends (W.contents out.old) (W.contents out.new) (refusal_line (by 18)))) }
+        ensures line { IfOk result
+            (ReadsDue self.old self.new (W.contents out.old) (W.contents out.new)) }
         ensures fewer { OnOk result (bytes_left_of self.new ≤ bytes_left_of self.old) }
     {
         if self.read_line()? {
@@ -103,9 +93,9 @@ impl<R: Read + Drop> Log<R> {
 
     // The table of the line at hand, where a table line is due.
     fn read_table<W: Write>(&mut self, heap: Global, out: &mut W) -> io::Result<Option<Opening>>
-        ensures told { IfOk result (λ due. LineTold self.old self.new
+        ensures told { IfOk result (λ due. AnswersLine self.old self.new
             (W.contents out.old) (W.contents out.new) table_due (due_stage due)) }
-        ensures few { IfOk result (λ due. IfSome due (λ o. o.places ≤ 12)) }
+        ensures few { IfOk result (λ due. IfSome due (λ o. o.places ≤ MOST_ROWS)) }
         ensures same { SameLog self.old self.new }
     {
         match read_opening(&self.line) {
@@ -117,11 +107,11 @@ impl<R: Read + Drop> Log<R> {
         }
     }
 
-    // The table of the first line.
-    fn opening<W: Write>(&mut self, heap: Global, out: &mut W) -> io::Result<Option<Opening>>
+    // Reads the first line, and the table in it.
+    fn read_opening<W: Write>(&mut self, heap: Global, out: &mut W) -> io::Result<Option<Opening>>
         ensures tells { IfOk result (λ due. Tells self.old self.new
             (W.contents out.old) (W.contents out.new) table_due (due_stage due)) }
-        ensures few { IfOk result (λ due. IfSome due (λ o. o.places ≤ 12)) }
+        ensures few { IfOk result (λ due. IfSome due (λ o. o.places ≤ MOST_ROWS)) }
     {
         if !self.read_due(heap, out)? {
             return Ok(None);
@@ -129,8 +119,8 @@ impl<R: Read + Drop> Log<R> {
         self.read_table(heap, out)
     }
 
-    // The factor of the clock line that belongs to a table.
-    fn clock<W: Write>(
+    // Reads the clock line that belongs to a table, and the factor in it.
+    fn read_clock<W: Write>(
         &mut self,
         heap: Global,
         out: &mut W,
@@ -161,12 +151,9 @@ impl<R: Read + Drop> Log<R> {
         clock: Factor,
         desk: &mut Desk<'_, RowKind>,
     ) -> io::Result<Next>
-        ensures told { IfOk result (λ next. (es : List Event)
-            → HasHistory row_demand es (table_of desk.old)
-            → (all : List Event) × HasHistory row_demand all (table_of desk.new)
-            × LineTold self.old self.new (W.contents out.old) (W.contents out.new)
-            (evening clock (account_of es (table_of desk.old)))
-            (stage_after clock (account_of all (table_of desk.new)) next)) }
+        ensures told { IfOk result (AnswersInEvening self.old self.new
+            (W.contents out.old) (W.contents out.new)
+            clock (table_of desk.old) (table_of desk.new)) }
         ensures few { IfOk result FewPlaces }
         ensures same { SameLog self.old self.new }
     {
@@ -185,20 +172,20 @@ impl<R: Read + Drop> Log<R> {
     }
 
     // Answers the lines of an evening at this table. The answer is the table of the next evening, if one follows.
-    fn evening<W: Write>(
+    fn answer_evening<W: Write>(
         &mut self,
         heap: Global,
         out: &mut W,
         opening: Opening,
     ) -> io::Result<Option<Opening>>
-        requires { opening.places ≤ 12 }
+        requires { opening.places ≤ MOST_ROWS }
         ensures tells { IfOk result (λ next. Tells self.old self.new
             (W.contents out.old) (W.contents out.new) (clock_due opening) (due_stage next)) }
-        ensures few { IfOk result (λ next. IfSome next (λ o. o.places ≤ 12)) }
+        ensures few { IfOk result (λ next. IfSome next (λ o. o.places ≤ MOST_ROWS)) }
         ensures fewer { IfOk result (λ next.
             due_count next + bytes_left_of self.new ≤ bytes_left_of self.old) }
     {
-        let Some(clock) = self.clock(heap, out, opening)? else {
+        let Some(clock) = self.read_clock(heap, out, opening)? else {
             return Ok(None);
         };
         let mut places = [None; MOST_ROWS];
@@ -214,18 +201,20 @@ impl<R: Read + Drop> Log<R> {
     }
 }
 
-/// Reads a log and writes what its lines are answered, each before the next line is read. The answer is whether all lines were
-/// well formed. An error is one of reading or writing, or want of memory; what was written till then stands. The contract is for
-/// logs whose bytes are known, and leaves open what an error leaves and when a byte is read or written.
+/// Reads a log, and writes what each of its lines is answered before the next line is read. The answer is whether all lines were
+/// well formed: refused by none of the checks 1 to 4 and 15 to 18.
+///
+/// An error is one of reading or of writing, or want of memory. Nothing is promised then: what was written till then stands, and
+/// may be any part of what is written for the log, up to the middle of a line. Nor is anything promised where the bytes of the
+/// log are not known beforehand, or of when a byte is read or written.
 pub fn replay<R: Read + Drop, W: Write>(heap: Global, log: R, out: &mut W) -> io::Result<bool>
-    ensures { IfOk result (λ well_formed. (input : List ℕ) → R.remaining log ≡ Some input
-        → (said : List ℕ) × Appends (W.contents out.old) (W.contents out.new) said
-        × Replayed input said well_formed) }
+    ensures { IfOk result
+        (AnswersLog (R.remaining log) (W.contents out.old) (W.contents out.new)) }
 {
     let mut log = Log::new(heap, log);
-    let mut due = log.opening(heap, out)?;
+    let mut due = log.read_opening(heap, out)?;
     while let Some(opening) = due {
-        due = log.evening(heap, out, opening)?;
+        due = log.answer_evening(heap, out, opening)?;
     }
     Ok(log.well_formed)
 }

@@ -1,6 +1,7 @@
-// A log, read line by line.
-ghost use Rattle.std.specs.Prelude.{◌≡◌, ◌+◌, ◌^◌, ◌<◌, ◌≤◌, min, true, [], ◌∷◌, ◌++◌, length, take, IfOk, IfSome, MatchBool, OnOk};
-ghost use Rattle.call_log.specs.Counting.{to_come};
+//! A log, read line by line.
+ghost use Rattle.std.specs.Prelude.{◌≡◌, ◌+◌, ◌^◌, ◌<◌, ◌≤◌, min, true, [], ◌∷◌, ◌++◌, length, IfOk, IfSome, MatchBool, OnOk};
+ghost use Rattle.planfile.specs.declared.TheConstants.{LONGEST_LINE};
+ghost use Rattle.call_log.specs.Counting.{kept_of, to_come};
 
 use planfile::LONGEST_LINE;
 use std::alloc::Global;
@@ -13,7 +14,7 @@ pub(crate) struct Log<R: Read> {
     bytes: Bytes<R>,
     // whether its end was seen
     ended: bool,
-    // the line at hand with its newline, of which one byte more than a line may have is kept
+    // the line at hand with its newline; of one that is too long, one byte more than a line may have is kept
     pub(crate) line: Vec<u8>,
     // how many lines were read
     pub(crate) number: u64,
@@ -23,7 +24,7 @@ pub(crate) struct Log<R: Read> {
 }
 
 impl<R: Read + Drop> Log<R> {
-    ghost use Rattle.call_log.specs.Reading.{bytes_left_of, left_of, ByteRead, LineRead, LineTaken, SameSoFar};
+    ghost use Rattle.call_log.specs.Reading.{bytes_left_of, left_of, ReadsByte, ReadsLine, TakesLine, SameSoFar};
 
     pub(crate) fn new(heap: Global, log: R) -> Log<R>
         ensures left { left_of result ≡ R.remaining log }
@@ -41,11 +42,12 @@ impl<R: Read + Drop> Log<R> {
 
     // The next byte, if there is one.
     fn next_byte(&mut self) -> io::Result<Option<u8>>
-        ensures byte { IfOk result (λ byte. ByteRead self.old byte self.new) }
+        ensures byte { IfOk result (λ byte. ReadsByte self.old byte self.new) }
         ensures fewer { IfOk result (λ byte. IfSome byte (λ _.
             bytes_left_of self.new < bytes_left_of self.old)) }
         ensures no_more { bytes_left_of self.new ≤ bytes_left_of self.old }
-        ensures same { SameSoFar self.old self.new × (self.new.line ≡ self.old.line) }
+        ensures same { SameSoFar self.old self.new }
+        ensures line { self.new.line ≡ self.old.line }
     {
         if self.ended {
             return Ok(None);
@@ -58,7 +60,7 @@ impl<R: Read + Drop> Log<R> {
     // Takes bytes up to a newline or the end.
     fn take_line(&mut self) -> io::Result<()>
         requires { self.old.line.items ≡ [] }
-        ensures line { OnOk result (LineTaken self.old self.new) }
+        ensures line { OnOk result (TakesLine self.old self.new) }
         ensures fewer { OnOk result (min 1 (length self.new.line.items) + bytes_left_of self.new
             ≤ bytes_left_of self.old) }
         ensures same { SameSoFar self.old self.new }
@@ -74,7 +76,7 @@ impl<R: Read + Drop> Log<R> {
 
     // Reads the next line, if there is one.
     pub(crate) fn read_line(&mut self) -> io::Result<bool>
-        ensures line { IfOk result (λ more. LineRead self.old more self.new) }
+        ensures line { IfOk result (λ more. ReadsLine self.old more self.new) }
         ensures fewer { IfOk result (λ more. MatchBool more
             (bytes_left_of self.new < bytes_left_of self.old)
             (bytes_left_of self.new ≤ bytes_left_of self.old)) }
@@ -95,8 +97,8 @@ impl<R: Read + Drop> Log<R> {
 
 // Puts a byte behind those of a line, of which one more is kept than it may have.
 fn push_byte(line: &mut Vec<u8>, byte: u8) -> io::Result<()>
-    requires { length line.old.items ≤ 4097 }
-    ensures { OnOk result (line.new.items ≡ take 4097 (line.old.items ++ byte ∷ [])) }
+    requires { length line.old.items ≤ LONGEST_LINE + 1 }
+    ensures { OnOk result (line.new.items ≡ kept_of (line.old.items ++ byte ∷ [])) }
 {
     if line.len() <= LONGEST_LINE {
         line.push(byte)?;

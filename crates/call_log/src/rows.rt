@@ -1,14 +1,11 @@
-// What is told of all rows of a table.
-ghost use Rattle.std.specs.Prelude.{◌≡◌, ℕ, ◌++◌, List, OnOk, string_bytes};
-ghost use Rattle.std.specs.Io.KnownBytes.{Appends};
-ghost use Rattle.analysis.specs.declared.Answer.{Answer as Row};
-ghost use Rattle.analysis.specs.Judge.{Answered};
-ghost use Rattle.analysis.specs.Ranks.{loads, ranking};
-ghost use Rattle.table.specs.Account.{Account, held};
-ghost use Rattle.table.specs.Agreement.{AgreesWith};
+//! What is told of all rows of a table.
+ghost use Rattle.std.specs.Prelude.{◌≡◌, ◌++◌, OnOk, string_bytes};
+ghost use Rattle.table.specs.Account.{held};
+ghost use Rattle.table.specs.Agreement.{MatchesAccount};
 ghost use Rattle.runs.specs.Desk.{table_of};
 ghost use Rattle.planfile.specs.Checks.{row_demand};
 ghost use Rattle.call_log.specs.Logs.{rows_text};
+ghost use Rattle.call_log.specs.Reading.{TellsRows};
 
 use analysis::Answer;
 use planfile::{Response, RowKind};
@@ -19,8 +16,8 @@ use table::State;
 
 // Whether a row is held. A row that is not stands as kept.
 fn is_held(desk: &Desk<'_, RowKind>, number: u32) -> bool
-    ensures { (a : Account) → AgreesWith row_demand a (table_of desk.now)
-        → result ≡ held number a.holds }
+    ensures { MatchesAccount row_demand
+        (λ a. result ≡ held number a.holds) (table_of desk.now) }
 {
     matches!(desk.table().state_of(number), State::Held(_))
 }
@@ -31,8 +28,9 @@ fn push_rows(
     answers: &[Answer],
     text: &mut String,
 ) -> Result<(), AllocError>
-    ensures { OnOk result ((a : Account) → AgreesWith row_demand a (table_of desk.now)
-        → string_bytes text.new ≡ string_bytes text.old ++ rows_text a answers.now) }
+    ensures { OnOk result (MatchesAccount row_demand
+        (λ a. string_bytes text.new ≡ string_bytes text.old ++ rows_text a answers.now)
+        (table_of desk.now)) }
 {
     for answer in answers {
         let row = Response::Row(*answer, is_held(desk, answer.number));
@@ -47,11 +45,8 @@ pub(crate) fn tell_rows<W: Write>(
     out: &mut W,
     desk: &Desk<'_, RowKind>,
 ) -> io::Result<()>
-    ensures { OnOk result ((said : List ℕ)
-        × Appends (W.contents out.old) (W.contents out.new) said
-        × ((a : Account) → AgreesWith row_demand a (table_of desk.now)
-        → (all : List Row) × Answered (loads (ranking a.rows)) all
-        × (said ≡ rows_text a all))) }
+    ensures { OnOk result
+        (TellsRows (table_of desk.now) (W.contents out.old) (W.contents out.new)) }
 {
     let answers = desk.answers();
     let mut text = String::new(heap);

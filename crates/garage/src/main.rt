@@ -1,4 +1,7 @@
-// An evening at a charging cabinet: calls are run on a desk, list after list, and each reply is told.
+//! An evening at a charging cabinet: calls are run on a desk, list after list, and each reply is told.
+//!
+//! It shows how a program uses `runs`. Begin with `main` and `evening`; `rows` has the rows, and `tell` what is printed. Times are
+//! in ticks of 100 microseconds.
 #![tactic(auto)]
 
 mod rows;

@@ -1,4 +1,4 @@
-// The rows of the evening.
+//! The rows of the evening.
 use analysis::{Row, Task};
 use demand::Every;
 

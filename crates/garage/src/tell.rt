@@ -1,4 +1,4 @@
-// What is printed of replies and of answers.
+//! What is printed of replies and of answers.
 use analysis::Answers;
 use runs::Reply;
 use table::HoldRefusal;

@@ -1,4 +1,4 @@
-// A row that is held over others again and again.
+//! A row that is held over others again and again.
 use super::line::Demand;
 use analysis::Task;
 use runs::Register;

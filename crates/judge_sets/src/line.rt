@@ -1,4 +1,4 @@
-// The lines of the input: a row, or what is asked of the rows before it. Fields stand one blank apart.
+//! The lines of the input: a row, or what is asked of the rows before it. Fields stand one blank apart.
 use analysis::{LOCKS, Row, Task};
 use demand::{Either, Every, Heavy, Left, Right};
 use std::fmt;

@@ -1,4 +1,6 @@
-// Judges sets of rows from standard input, or holds their last row, and prints what is found for each.
+//! Judges sets of rows from standard input, or holds their last row, and prints what is found for each. It is for the benchmark:
+//! a set costs what its judgement costs, and little else. `line` has the lines of the input. Times are in ticks of 100
+//! microseconds. Begin with `run`.
 #![tactic(auto)]
 
 ghost use Rattle.std.specs.Prelude.{◌≡◌, ◌++◌, string_bytes, OnOk};
@@ -17,7 +19,8 @@ use table::HoldRefusal;
 
 // Appends the line of one answer.
 fn write_answer(text: &mut String, answer: &Answer) -> Result<(), AllocError>
-    ensures { OnOk result (string_bytes text.new ≡ string_bytes text.old ++ answer_line answer.now) }
+    ensures { OnOk result
+        (string_bytes text.new ≡ string_bytes text.old ++ answer_line answer.now) }
 {
     writeln!(
         text,

@@ -1,6 +1,6 @@
 -- The kind whose job comes once: what it means, and that it keeps the laws of a kind. Assumes nothing.
 -- How to read it: c is the length of the job, as a value of the code has it; `once` is the meaning; `once_lawful` has a line for each law.
-use Rattle.std.specs.Prelude.{ℕ, cond, ◌==◌}
+use Rattle.std.specs.Prelude.{ℕ, if◌then◌else◌, ◌==◌}
 use Rattle.std.proofs.Common.{arith}
 use Rattle.demand.specs.Demand.{Demand, Lawful}
 use Rattle.demand.specs.Basic.{length_of_job}
@@ -12,7 +12,7 @@ once c = record {
   spacing = 1_000_000;
   own = length_of_job c;
   least = length_of_job c;
-  work = λ w. cond (w == 0) 0 (length_of_job c);
+  work = λ w. if w == 0 then 0 else length_of_job c;
 }
 
 -- what a value of the code means

@@ -1,5 +1,8 @@
-// A kind of demand of this program's own, beside one of the library: its rows are judged, and held and kept in a table. Neither
-// `analysis` nor `table` knows the kind; all that they promise is for every kind that keeps the laws.
+//! A kind of demand of this program's own, beside one of the library: its rows are judged, and held and kept in a table. Neither
+//! `analysis` nor `table` knows the kind; all that they promise is for every kind that keeps the laws.
+//!
+//! Begin with `once`, which has the kind: what a value means, and the proof that it keeps the laws. Times are in ticks of 100
+//! microseconds.
 #![tactic(auto)]
 
 mod once;
@@ -57,6 +60,7 @@ fn ask(rt: &HostRuntime, register: &mut Register<Jobs>, task: Task<Jobs>) -> io:
     }
 }
 
+// What is found for each row, highest first.
 fn tell_rows(rt: &HostRuntime, register: &Register<Jobs>) -> io::Result<()> {
     for answer in register.answers().rows() {
         println!(rt;

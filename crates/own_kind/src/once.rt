@@ -1,4 +1,4 @@
-// The kind whose job comes once.
+//! The kind whose job comes once.
 ghost use Rattle.own_kind.specs.Once.{once_demand, once_lawful};
 
 use demand::Kind;

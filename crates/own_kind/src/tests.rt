@@ -1,4 +1,4 @@
-// The kind asked by itself, and judged without a table.
+//! The kind asked by itself, and judged without a table.
 use super::*;
 use analysis::{JudgeRefusal, judge};
 use demand::Kind;

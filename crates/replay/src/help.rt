@@ -1,4 +1,4 @@
-// What `replay --help` prints.
+//! What `replay --help` prints.
 pub(crate) const HELP: &str = "\
 replay: reads a log of calls, and prints what each call is answered
 

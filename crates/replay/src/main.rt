@@ -1,4 +1,5 @@
-//! Prints what the calls of logs are answered, from the files named as arguments or from standard input.
+//! Prints what the calls of logs are answered, from the files named as arguments or from standard input. [`replay`] of `call_log`
+//! answers a log; this program opens the files, says what went wrong, and ends with a status. Begin with `run`.
 #![tactic(auto)]
 
 mod help;
@@ -10,7 +11,7 @@ use call_log::replay;
 use help::HELP;
 use std::env;
 use std::fs::File;
-use std::io::{self, BufReader, Read};
+use std::io::{self, BufReader, Read, Write};
 use std::process::ExitCode;
 
 // How it went with some logs, the better first. The number is the exit status.
@@ -24,19 +25,56 @@ enum Outcome {
     Failed = 2,
 }
 
-// Prints the answers to the log that a reader gives. They are not kept back, since who writes the log may wait for them.
-fn answer_log<R: Read + Drop>(rt: &HostRuntime, log: R) -> io::Result<Outcome> {
+// Where answers are written, and whether the last write failed. Then no other log can be answered either.
+#[derive(Drop)]
+struct Output<W> {
+    to: W,
+    failed: bool,
+}
+
+impl<W> Output<W> {
+    fn new(to: W) -> Output<W> {
+        Output { to, failed: false }
+    }
+}
+
+impl<W: Write> Write for Output<W> {
+    fn write(&mut self, buf: &[u8]) -> io::Result<usize> {
+        let written = self.to.write(buf);
+        self.failed = !matches!(written, Ok(count) if 0 < count);
+        written
+    }
+
+    fn flush(&mut self) -> io::Result<()> {
+        self.to.flush()
+    }
+}
+
+// Writes the answers to the log that a reader gives. They are not kept back, since who writes the log may wait for them.
+fn answer_log<R: Read + Drop, W: Write>(
+    rt: &HostRuntime,
+    log: R,
+    out: &mut Output<W>,
+) -> io::Result<Outcome> {
     let heap = rt.alloc();
     let log = BufReader::new(heap, log)?;
-    if replay(heap, log, &mut io::writer(rt))? {
+    if replay(heap, log, out)? {
         Ok(Outcome::WellFormed)
     } else {
         Ok(Outcome::Malformed)
     }
 }
 
-fn answer_file(rt: &HostRuntime, name: &str) -> anyhow::Result<Outcome> {
-    let answered = File::open(rt, name).and_then(|file| answer_log(rt, file));
+// Writes the answers to a file. An error names the file, but for one of writing, which is not about the file.
+fn answer_file<W: Write>(
+    rt: &HostRuntime,
+    name: &str,
+    out: &mut Output<W>,
+) -> anyhow::Result<Outcome> {
+    let answered = File::open(rt, name).and_then(|file| answer_log(rt, file, out));
+    if out.failed {
+        return answered.context("the answers cannot be written");
+    }
     answered.context(format_args!("{name}"))
 }
 
@@ -46,14 +84,22 @@ fn complain(rt: &HostRuntime, error: &anyhow::Error) -> Outcome {
     Outcome::Failed
 }
 
-// Prints the answers to each file in turn. One that cannot be read keeps none of the others from it.
-fn answer_files(rt: &HostRuntime, names: &[String]) -> Outcome {
+// Writes the answers to each file in turn. One that cannot be read keeps none of the others from it; a write that fails ends it.
+fn answer_files<W: Write>(
+    rt: &HostRuntime,
+    names: &[String],
+    out: &mut Output<W>,
+) -> anyhow::Result<Outcome> {
     let mut worst = Outcome::WellFormed;
     for name in names {
-        let outcome = answer_file(rt, name.as_str()).unwrap_or_else(|error| complain(rt, &error));
+        let outcome = match answer_file(rt, name.as_str(), out) {
+            Ok(outcome) => outcome,
+            Err(error) if out.failed => return Err(error),
+            Err(error) => complain(rt, &error),
+        };
         worst = worst.max(outcome);
     }
-    worst
+    Ok(worst)
 }
 
 fn run(rt: &HostRuntime) -> anyhow::Result<Outcome> {
@@ -65,10 +111,11 @@ fn run(rt: &HostRuntime) -> anyhow::Result<Outcome> {
     if let Some(unknown) = args.iter().find(|arg| arg.starts_with('-')) {
         return Err(anyhow!("unknown argument {unknown}; replay --help says what there is"));
     }
+    let mut out = Output::new(io::writer(rt));
     if args.is_empty() {
-        return Ok(answer_log(rt, rt.stdin())?);
+        return Ok(answer_log(rt, rt.stdin(), &mut out)?);
     }
-    Ok(answer_files(rt, &args))
+    answer_files(rt, &args, &mut out)
 }
 
 fn main(rt: HostRuntime) -> ExitCode {

@@ -1,4 +1,5 @@
-// Logs at their limits and bad ones, and a worked example of each public call for logs, run on the code.
+// Logs at their limits and bad ones, a worked example of each public call for logs, run on the code, and a write that fails.
+use super::{Output, answer_files};
 use analysis::Answer;
 use call_log::replay;
 use demand::Factor;
@@ -193,6 +194,40 @@ impl Write for Lines {
     fn flush(&mut self) -> io::Result<()> {
         Ok(())
     }
+}
+
+// Takes no byte, and counts the writes that were tried.
+#[derive(Drop)]
+struct Full(u32);
+
+impl Write for Full {
+    fn write(&mut self, _buf: &[u8]) -> io::Result<usize> {
+        self.0 = self.0.saturating_add(1);
+        Err(io::ErrorKind::StorageFull.into())
+    }
+
+    fn flush(&mut self) -> io::Result<()> {
+        Ok(())
+    }
+}
+
+// A write that fails is no fault of the file, and none is tried for the next one. Each of these files is an empty log.
+#[test]
+fn write_that_fails(rt: HostRuntime) -> Result<(), Fail> {
+    let heap = rt.alloc();
+    let mut names = Vec::new(heap);
+    for _ in 0..2 {
+        names.push(format!(in heap; "/dev/null")?)?;
+    }
+    let mut out = Output::new(Full(0));
+    let error = answer_files(&rt, &names, &mut out).err();
+    let text = format!(in heap; "{error:?}")?;
+    assert_eq!(rt;
+        (text.contains("written"), text.contains("/dev/null")),
+        (true, false)
+    );
+    assert_eq!(rt; out.to.0, 1);
+    Ok(())
 }
 
 // How many pages of memory the process has. It is the second number of this file.

@@ -10,6 +10,10 @@ use Rattle.table.specs.Memory.{ChangedAt, MarkedAt, SameTable}
 use Rattle.runs.specs.Holds.{frame_of}
 
 module _ {K : Type 0} (t u : Table K) where
+  -- the number of a table is part of its frame
+  pub same_number : frame_of u ≡ frame_of t → u.number ≡ t.number
+  same_number frame = ap (λ (x : Account × ℕ × List (Option (Task K))). x.0.number) frame
+
   -- the four parts of a frame
   frame_from : u.number ≡ t.number → length u.places.now ≡ length t.places.now → u.places.ghost_name ≡ t.places.ghost_name → drop 12 u.places.now ≡ drop 12 t.places.now → frame_of u ≡ frame_of t
   frame_from number count lent behind =

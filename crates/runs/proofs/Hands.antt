@@ -1,15 +1,14 @@
 -- Holds that come to hand, stay and go. Assumes nothing.
-use Rattle.std.proofs.Common.{◌≡◌, ◌≢◌, ℕ, zero, suc, ◌+◌, ◌<◌, Bool, true, false, eqb, not, ◌&&◌, ◌||◌, List, [], ◌∷◌, ◌++◌, length, get_or, take, drop, None, Some, Option, Ok, Err, IsErr, IsOk, MatchResult, Result, sym, refl, ap, ◌∙◌, subst, inl, inr, arith, eqb-true}
+use Rattle.std.proofs.Common.{◌≡◌, ◌≢◌, ℕ, zero, suc, ◌+◌, ◌<◌, Bool, true, false, ◌==◌, not, ◌&&◌, ◌||◌, List, [], ◌∷◌, ◌++◌, length, slice_index_or, take, drop, None, Some, Option, Ok, Err, IsErr, IsOk, MatchResult, Result, sym, refl, ap, ◌∙◌, subst, inl, inr, arith, eqb-true}
 use Rattle.std.specs.List.{All, AllPairs, list_any, insert, position, position_from, remove}
 use Rattle.std.proofs.lemmas.Iterator.Adapters.{position_from-zero}
 use Rattle.std.proofs.lemmas.Bool.{and_from, and_parts, cases_Bool, both_ways, eq-eqb, ne_eqb, false_from_ne_true}
-use Rattle.std.proofs.lemmas.List.Elements.{All-append, All-drop, All-take}
+use Rattle.std.proofs.lemmas.List.Elements.{All-append, All-drop, All-push, All-take}
 use Rattle.std.proofs.lemmas.List.Folds.{Any-from_list_any, list_any-append, list_any_at, list_any_none}
 use Rattle.std.proofs.lemmas.List.Quantifiers.{all_pairs_push, all_pairs_remove, position-Some}
 use Rattle.std.proofs.Math.Logic.{∥∥₁_elim}
 use Rattle.std.specs.Coded.{Coded-set, coded_bool}
 use Rattle.demand.specs.Demand.{Demand}
-use Rattle.analysis.specs.declared.Task.{Task}
 use Rattle.table.specs.History.{Continues, HasHistory}
 use Rattle.table.proofs.InHand.{has_held_is, keep_refused, release_refused}
 use Rattle.table.proofs.Spending.{not_ours}
@@ -23,7 +22,8 @@ use Rattle.runs.specs.Calls.{on_row, spending}
 use Rattle.table.specs.declared.hold.Hold.{Hold}
 use Rattle.table.specs.declared.Table.{Table}
 use Rattle.table.specs.Places.{has_held}
-use Rattle.runs.specs.Holds.{GivesHoldOn, HandsBack, InHand, SameHeld, SpendsHoldOn, frame_of, has_hold, is_on, is_token}
+use Rattle.runs.proofs.Frame.{same_number}
+use Rattle.runs.specs.Holds.{GivesHoldOn, HandsBack, InHand, SameHeld, SpendsHoldOn, has_hold, is_on, is_token}
 
 -- no hold is in hand at a table that was just made
 pub none_in_hand : {K : Type 0} (demand : K → Demand) (t : Table K) → HasHistory demand [] t → InHand t []
@@ -38,30 +38,26 @@ abbrev RowsApart : Hold → Hold → Type 0
 RowsApart g h = g.row ≢ h.row
 
 -- none of these is on the row n
-none_on : (n : ℕ) (hs : List Hold) → has_hold n hs ≡ false → (i : ℕ) (d : Hold) → i < length hs → (get_or hs i d).row ≢ n
-none_on n hs none i d l e = both_ways (has_hold n hs) none (list_any_at (is_on n) hs i d l (eq-eqb (get_or hs i d).row n e))
+none_on : (n : ℕ) (hs : List Hold) → has_hold n hs ≡ false → (i : ℕ) (d : Hold) → i < length hs → (slice_index_or hs i d).row ≢ n
+none_on n hs none i d l e = both_ways (has_hold n hs) none (list_any_at (is_on n) hs i d l (eq-eqb (slice_index_or hs i d).row n e))
 
 -- where no two are on one row, none of the rest is on the row of one that goes
-gone : (hs : List Hold) (i : ℕ) (d : Hold) → i < length hs → AllPairs RowsApart hs → (m : ℕ) → has_hold m (remove hs i) ≡ (not (eqb (get_or hs i d).row m) && has_hold m hs)
+gone : (hs : List Hold) (i : ℕ) (d : Hold) → i < length hs → AllPairs RowsApart hs → (m : ℕ) → has_hold m (remove hs i) ≡ (not ((slice_index_or hs i d).row == m) && has_hold m hs)
 gone [] i d l apart m = absurd (omega arith)
-gone (h ∷ hs) zero d l apart m = elim (cases_Bool (eqb h.row m)) [
-  | inl e ↦ rw e (list_any_none (is_on m) hs (λ k x q. ne_eqb (get_or hs k x).row m (λ f. apart 0 (suc k) x (omega arith) (omega arith) (eqb-true h.row m e ∙ sym f))))
+gone (h ∷ hs) zero d l apart m = elim (cases_Bool (h.row == m)) [
+  | inl e ↦ rw e (list_any_none (is_on m) hs (λ k x q. ne_eqb (slice_index_or hs k x).row m (λ f. apart 0 (suc k) x (omega arith) (omega arith) (eqb-true h.row m e ∙ sym f))))
   | inr e ↦ rw e refl
 ]
 gone (h ∷ hs) (suc i) d l apart m =
     let rest = gone hs i d (omega arith) (λ j k x below q. apart (suc j) (suc k) x (omega arith) (omega arith)) m in
-    elim (cases_Bool (eqb h.row m)) [
+    elim (cases_Bool (h.row == m)) [
       | inl e ↦
-          let other : eqb (get_or hs i d).row m ≡ false = ne_eqb (get_or hs i d).row m (λ f. apart 0 (suc i) d (omega arith) l (eqb-true h.row m e ∙ sym f)) in
+          let other : ((slice_index_or hs i d).row == m) ≡ false = ne_eqb (slice_index_or hs i d).row m (λ f. apart 0 (suc i) d (omega arith) l (eqb-true h.row m e ∙ sym f)) in
           rw (e, other) refl
       | inr e ↦ rw e rest
     ]
 
--- what holds of the only one, and of those that are left when one goes
-single : {A : Type 0} (P : A → Type 0) (y : A) → P y → All P (y ∷ [])
-single P y p zero d l = p
-single P y p (suc i) d l = absurd (omega arith)
-
+-- what holds of all holds of those that are left when one goes
 left : {A : Type 0} (P : A → Type 0) (xs : List A) (i : ℕ) → All P xs → All P (remove xs i)
 left P xs i all = All-append P (take i xs) (drop (suc i) xs) (All-take P i xs all) (All-drop P (suc i) xs all)
 
@@ -69,35 +65,32 @@ flip : (x y : Bool) → (x || y) ≡ (y || (x || false))
 flip x y = grind arith
 
 module _ {K : Type 0} (t u : Table K) (hs : List Hold) (known : InHand t hs) where
-  number_stays : frame_of u ≡ frame_of t → u.number ≡ t.number
-  number_stays e = ap (λ (x : Account × ℕ × List (Option (Task K))). x.0.number) e
-
   own_still : u.number ≡ t.number → All (λ h. h.table ≡ u.number) hs
   own_still e = λ i d l. known.own i d l ∙ sym e
 
   pub same_in_hand : SameHeld t u → InHand u hs
-  same_in_hand same = record { own = own_still (number_stays same.frame); apart = known.apart; exactly = λ n. same.held n ∙ known.exactly n }
+  same_in_hand same = record { own = own_still (same_number t u same.frame); apart = known.apart; exactly = λ n. same.held n ∙ known.exactly n }
 
   pub one_more : (n : ℕ) (h : Hold) → GivesHoldOn t u n h → InHand u (hs ++ h ∷ [])
   one_more n h given = record {
-    own = All-append (λ x. x.table ≡ u.number) hs (h ∷ []) (own_still (number_stays given.frame)) (single (λ x. x.table ≡ u.number) h (given.table ∙ sym (number_stays given.frame)));
+    own = All-push (λ x. x.table ≡ u.number) hs h (own_still (same_number t u given.frame)) (given.table ∙ sym (same_number t u given.frame));
     apart = all_pairs_push RowsApart hs h known.apart (λ k d l q. none_on n hs (sym (known.exactly n) ∙ given.was) k d l (q ∙ given.row));
     exactly = λ m.
         given.held m
-        ∙ ap (λ b. eqb n m || b) (known.exactly m)
-        ∙ flip (eqb n m) (has_hold m hs)
-        ∙ ap (λ k. has_hold m hs || (eqb k m || false)) (sym given.row)
+        ∙ ap (λ b. (n == m) || b) (known.exactly m)
+        ∙ flip (n == m) (has_hold m hs)
+        ∙ ap (λ k. has_hold m hs || ((k == m) || false)) (sym given.row)
         ∙ sym (list_any-append (is_on m) hs (h ∷ []));
   }
 
-  pub one_less : (i : ℕ) (h : Hold) → i < length hs → h ≡ get_or hs i h → SpendsHoldOn t u h → InHand u (remove hs i)
+  pub one_less : (i : ℕ) (h : Hold) → i < length hs → h ≡ slice_index_or hs i h → SpendsHoldOn t u h → InHand u (remove hs i)
   one_less i h l is spent = record {
-    own = left (λ x. x.table ≡ u.number) hs i (own_still (number_stays spent.frame));
+    own = left (λ x. x.table ≡ u.number) hs i (own_still (same_number t u spent.frame));
     apart = all_pairs_remove RowsApart hs i l known.apart;
     exactly = λ m.
         spent.held m
-        ∙ ap (λ b. not (eqb h.row m) && b) (known.exactly m)
-        ∙ ap (λ (x : Hold). not (eqb x.row m) && has_hold m hs) is
+        ∙ ap (λ b. not (h.row == m) && b) (known.exactly m)
+        ∙ ap (λ (x : Hold). not (x.row == m) && has_hold m hs) is
         ∙ sym (gone hs i h l known.apart m);
   }
 
@@ -106,7 +99,7 @@ last_gone : (hs : List Hold) (h : Hold) → remove (hs ++ h ∷ []) (length hs) 
 last_gone [] h = refl
 last_gone (x ∷ hs) h = ap (λ ys. x ∷ ys) (last_gone hs h)
 
-last_there : (hs : List Hold) (h : Hold) → (length hs < length (hs ++ h ∷ [])) × (h ≡ get_or (hs ++ h ∷ []) (length hs) h)
+last_there : (hs : List Hold) (h : Hold) → (length hs < length (hs ++ h ∷ [])) × (h ≡ slice_index_or (hs ++ h ∷ []) (length hs) h)
 last_there [] h = (omega arith, refl)
 last_there (x ∷ hs) h = let rest = last_there hs h in (omega (arith, rest.0), rest.1)
 
@@ -133,15 +126,15 @@ module _ (table n : ℕ) where
         let some = Any-from_list_any (is_on n) hs q in
         let h : Hold = some.1 in
         both_ways (list_any (is_token table n) hs) (place_none 0 hs (sym (position_from-zero (is_token table n) hs) ∙ found_is ∙ e))
-        (list_any_at (is_token table n) hs some.0 h some.2 (and_from (eqb (get_or hs some.0 h).table table) (eqb (get_or hs some.0 h).row n)
-        (eq-eqb (get_or hs some.0 h).table table (own some.0 h some.2))
+        (list_any_at (is_token table n) hs some.0 h some.2 (and_from ((slice_index_or hs some.0 h).table == table) ((slice_index_or hs some.0 h).row == n)
+        (eq-eqb (slice_index_or hs some.0 h).table table (own some.0 h some.2))
         (rw some.3 some.4))))
 
-    pub found_there : (i : ℕ) (h : Hold) → r ≡ Some i → h ≡ get_or hs i h → (i < length hs) × (h.table ≡ table) × (h.row ≡ n)
+    pub found_there : (i : ℕ) (h : Hold) → r ≡ Some i → h ≡ slice_index_or hs i h → (i < length hs) × (h.table ≡ table) × (h.row ≡ n)
     found_there i h e is =
         let there = position-Some (is_token table n) hs i h (found_is ∙ e) in
-        let both = and_parts (eqb (get_or hs i h).table table) (eqb (get_or hs i h).row n) there.1 in
-        (there.0, ap (λ (x : Hold). x.table) is ∙ eqb-true (get_or hs i h).table table both.0, ap (λ (x : Hold). x.row) is ∙ eqb-true (get_or hs i h).row n both.1)
+        let both = and_parts ((slice_index_or hs i h).table == table) ((slice_index_or hs i h).row == n) there.1 in
+        (there.0, ap (λ (x : Hold). x.table) is ∙ eqb-true (slice_index_or hs i h).table table both.0, ap (λ (x : Hold). x.row) is ∙ eqb-true (slice_index_or hs i h).row n both.1)
 
 module _ {K : Type 0} (demand : K → Demand) (t : Table K) (way : Way) where
   -- a hold on a row that does not stand as held, or of another table, is refused
@@ -176,43 +169,38 @@ refused_with t u h (Ok x) e m is = cc
 refused_with t u h (Err d) e m is = ap Err (back_is h d m.same)
 
 -- a hold that is put back where it was
-pub put_back : {A : Type 0} (xs : List A) (i : ℕ) (x : A) → i < length xs → x ≡ get_or xs i x → insert (remove xs i) i x ≡ xs
+pub put_back : {A : Type 0} (xs : List A) (i : ℕ) (x : A) → i < length xs → x ≡ slice_index_or xs i x → insert (remove xs i) i x ≡ xs
 put_back [] i x l is = absurd (omega arith)
 put_back (y ∷ xs) zero x l is = ap (λ z. z ∷ xs) is
 put_back (y ∷ xs) (suc i) x l is = ap (λ zs. y ∷ zs) (put_back xs i x (omega arith) is)
 
--- a hold in hand is spent without refusal
-module _ {K : Type 0} (t u : Table K) (hs : List Hold) (known : InHand t hs) (i : ℕ) (h : Hold) (within : i < length hs) (is : h ≡ get_or hs i h) where
+-- a hold in hand is of this table, and its row is held
+module _ {K : Type 0} (t : Table K) (hs : List Hold) (known : InHand t hs) (i : ℕ) (h : Hold) (within : i < length hs) (is : h ≡ slice_index_or hs i h) where
   pub own_number : h.table ≡ t.number
   own_number = ap (λ (x : Hold). x.table) is ∙ known.own i h within
 
-  stands_held : has_held t h.row ≡ true
-  stands_held = known.exactly h.row ∙ list_any_at (is_on h.row) hs i h within (eq-eqb (get_or hs i h).row h.row (ap (λ (x : Hold). x.row) (sym is)))
+  pub stands_held : has_held t h.row ≡ true
+  stands_held = known.exactly h.row ∙ list_any_at (is_on h.row) hs i h within (eq-eqb (slice_index_or hs i h).row h.row (ap (λ (x : Hold). x.row) (sym is)))
 
+-- such a hold is spent without refusal
+module _ {K : Type 0} (t u : Table K) (h : Hold) (own : h.table ≡ t.number) (held : has_held t h.row ≡ true) where
   pub not_handed_back : (r : Result (Unit {0}) SpendRefusal) → MatchResult r (λ _. SpendsHoldOn t u h) (HandsBack t u h) → IsOk r
   not_handed_back (Ok x) m = refl
-  not_handed_back (Err e) m = absurd (both_ways (has_held t h.row) (m.why own_number) stands_held)
+  not_handed_back (Err e) m = absurd (both_ways (has_held t h.row) (m.why own) held)
 
   pub spent_surely : (r : Result (Unit {0}) SpendRefusal) → MatchResult r (λ _. SpendsHoldOn t u h) (HandsBack t u h) → SpendsHoldOn t u h
   spent_surely (Ok x) m = m
-  spent_surely (Err e) m = absurd (both_ways (has_held t h.row) (m.why own_number) stands_held)
+  spent_surely (Err e) m = absurd (both_ways (has_held t h.row) (m.why own) held)
 
-pub same_frame : {K : Type 0} (t u : Table K) (h : Hold) (r : Result (Unit {0}) SpendRefusal) → MatchResult r (λ _. SpendsHoldOn t u h) (HandsBack t u h) → frame_of u ≡ frame_of t
-same_frame t u h (Ok x) m = m.frame
-same_frame t u h (Err e) m = m.held.frame
+-- the last hold in hand
+module _ {K : Type 0} (t : Table K) (hs : List Hold) (h : Hold) (known : InHand t (hs ++ h ∷ [])) where
+  pub last_own : h.table ≡ t.number
+  last_own = let there = last_there hs h in own_number t (hs ++ h ∷ []) known (length hs) h there.0 there.1
 
--- the last hold in hand is spent without refusal
-module _ {K : Type 0} (t u : Table K) (hs : List Hold) (h : Hold) (known : InHand t (hs ++ h ∷ [])) (r : Result (Unit {0}) SpendRefusal) (m : MatchResult r (λ _. SpendsHoldOn t u h) (HandsBack t u h)) where
-  pub last_taken : IsOk r
-  last_taken =
+  pub last_held : has_held t h.row ≡ true
+  last_held = let there = last_there hs h in stands_held t (hs ++ h ∷ []) known (length hs) h there.0 there.1
+
+  pub without_last : (u : Table K) → SpendsHoldOn t u h → InHand u hs
+  without_last u spent =
       let there = last_there hs h in
-      not_handed_back t u (hs ++ h ∷ []) known (length hs) h there.0 there.1 r m
-
-  pub without_last : InHand u hs
-  without_last =
-      let there = last_there hs h in
-      subst (InHand u) (last_gone hs h) (one_less t u (hs ++ h ∷ []) known (length hs) h there.0 there.1 (spent_surely t u (hs ++ h ∷ []) known (length hs) h there.0 there.1 r m))
-
-pub no_items : {A : Type 0} (xs : List A) → length xs ≡ 0 → xs ≡ []
-no_items [] e = refl
-no_items (x ∷ xs) e = absurd (omega arith)
+      subst (InHand u) (last_gone hs h) (one_less t u (hs ++ h ∷ []) known (length hs) h there.0 there.1 spent)

@@ -4,12 +4,14 @@
 use Rattle.std.specs.Prelude.{◌≡◌, ℕ, List, [], ◌∷◌, Ok, Err, Result}
 use Rattle.demand.specs.Demand.{Demand}
 use Rattle.analysis.specs.declared.Task.{Task}
-use Rattle.analysis.specs.Ranks.{Claim}
+use Rattle.analysis.specs.Candidates.{claim_with}
 use Rattle.table.specs.declared.hold.Hold.{Hold as Token}
 use Rattle.table.specs.declared.refusals.HoldRefusal.{HoldRefusal}
 use Rattle.table.specs.declared.refusals.SpendRefusal.{SpendRefusal}
 use Rattle.table.specs.declared.refusals.SpendRefusal.TheVariants.{NotHeld as Back}
+use Rattle.table.specs.declared.Table.{Table}
 use Rattle.table.specs.Account.{hold_number, withdraw_number, bound_number}
+use Rattle.table.specs.History.{Continues, HasHistory}
 use Rattle.table.specs.Runs.{Event, holding, keeping, releasing, withdrawing, bounding}
 use Rattle.runs.specs.declared.call.HoldId.{HoldId}
 use Rattle.runs.specs.declared.call.NotHeld.{NotHeld}
@@ -68,20 +70,28 @@ abbrev pub spending : Way → Token → Result (Unit {0}) SpendRefusal → Event
 spending KeepRow h r = keeping h r
 spending GiveUp h r = releasing h r
 
+-- the hold was spent in one of the two ways
+abbrev pub spend_of : Way → Token → Event
+spend_of way h = spending way h (Ok tt)
+
 -- the hold was released
 abbrev pub release_of : Token → Event
 release_of h = releasing h (Ok tt)
 
--- the row of a task, with the meaning of its kind
-abbrev pub claim_of : {K : Type 0} → (K → Demand) → Task K → Claim
-claim_of demand task = record { row = task.row; demand = demand task.kind }
+-- the hold that a call names was to be spent, with the reply
+abbrev pub spend_event : Way → HoldId → Result (Unit {0}) NotHeld → Event
+spend_event way id r = spending way (token id) (spend_answer (token id) r)
+
+-- a row was to be held, with the reply
+abbrev pub hold_event : {K : Type 0} → (K → Demand) → ℕ → Task K → Result (Unit {0}) HoldRefusal → Event
+hold_event demand table task r = holding (claim_with demand task.row task.kind) (hold_answer table task.row.number r)
 
 module _ {K : Type 0} (demand : K → Demand) (table : ℕ) where
   -- the call and its reply are this event; a reply to another call than its own is none
   abbrev pub IsEvent : Call K → Reply → Event → Type 0
-  IsEvent (HoldCall task) (Hold r) e = e ≡ holding (claim_of demand task) (hold_answer table task.row.number r)
-  IsEvent (KeepCall id) (Keep r) e = e ≡ keeping (token id) (spend_answer (token id) r)
-  IsEvent (ReleaseCall id) (Release r) e = e ≡ releasing (token id) (spend_answer (token id) r)
+  IsEvent (HoldCall task) (Hold r) e = e ≡ hold_event demand table task r
+  IsEvent (KeepCall id) (Keep r) e = e ≡ spend_event KeepRow id r
+  IsEvent (ReleaseCall id) (Release r) e = e ≡ spend_event GiveUp id r
   IsEvent (WithdrawCall n) (Withdraw r) e = e ≡ withdrawing n r
   IsEvent (BoundCall n) (Bound r) e = e ≡ bounding n r
   IsEvent call reply e = ⊥
@@ -92,3 +102,19 @@ module _ {K : Type 0} (demand : K → Demand) (table : ℕ) where
   Follow [] (r ∷ rs) es all = ⊥
   Follow (c ∷ cs) [] es all = ⊥
   Follow (c ∷ cs) (r ∷ rs) es all = (e : Event) × IsEvent c r e × Follow cs rs (e ∷ es) all
+
+module _ {K : Type 0} (demand : K → Demand) where
+  -- The table t is made the table u, and `more` puts the events between the two before those till then: whatever t had been through, u has been
+  -- through all of these.
+  abbrev pub ContinuesBy : (List Event → List Event) → Table K → Table K → Type 0
+  ContinuesBy more t u = (es : List Event) → HasHistory demand es t → HasHistory demand (more es) u
+
+  -- one call was made on the table t, which is u then
+  abbrev pub MakesCall : Call K → Reply → Table K → Table K → Type 0
+  MakesCall call reply t u = (e : Event) × IsEvent demand t.number call reply e × Continues demand e t u
+
+  -- calls were made on the table t, which is u then
+  abbrev pub MakesCalls : List (Call K) → List Reply → Table K → Table K → Type 0
+  MakesCalls calls replies t u =
+      (es : List Event) → HasHistory demand es t
+      → (all : List Event) × Follow demand u.number calls replies es all × HasHistory demand all u

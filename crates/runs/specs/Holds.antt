@@ -1,12 +1,14 @@
 -- Holds in hand, and what a call does to the rows that stand as held. Assumes nothing.
 -- How to read it: t is a table before a call and u the one after it, hs are holds, n is the number of a row.
-use Rattle.std.specs.Prelude.{◌≡◌, ◌≢◌, ℕ, Bool, true, false, not, ◌&&◌, ◌||◌, ◌==◌, List, Option, All, AllPairs, drop}
+use Rattle.std.specs.Prelude.{◌≡◌, ◌≢◌, ℕ, Bool, not, ◌&&◌, ◌||◌, ◌==◌, List, Option, All, AllPairs, IsTrue, IsFalse, drop, length, min}
 use Rattle.std.specs.List.{list_any}
+use Rattle.std.specs.Borrow.{MutBor}
+use Rattle.analysis.specs.declared.TheConstants.{MOST_ROWS}
 use Rattle.analysis.specs.declared.Task.{Task}
 use Rattle.table.specs.declared.hold.Hold.{Hold}
 use Rattle.table.specs.declared.refusals.SpendRefusal.{SpendRefusal}
 use Rattle.table.specs.declared.Table.{Table}
-use Rattle.table.specs.Account.{Account, handed_back}
+use Rattle.table.specs.Account.{Account, fresh, handed_back}
 use Rattle.table.specs.History.{fresh_of}
 use Rattle.table.specs.Places.{has_held}
 
@@ -27,9 +29,13 @@ abbrev pub has_own : ℕ → List Hold → Bool
 has_own table hs = list_any (λ h. h.table == table) hs
 
 module _ {K : Type 0} where
-  -- what no call changes: the number and the room of a table, the memory that it was lent, and what stands there behind the twelfth place
+  -- what no call changes: the number and the room of a table, the memory that it was lent, and what stands there behind the places that it uses
   abbrev pub frame_of : Table K → Account × ℕ × List (Option (Task K))
-  frame_of t = (fresh_of t, t.places.ghost_name, drop 12 t.places.now)
+  frame_of t = (fresh_of t, t.places.ghost_name, drop MOST_ROWS t.places.now)
+
+  -- the same of a table that is made with this number over this row memory
+  abbrev pub frame_over : ℕ → MutBor (List (Option (Task K))) → Account × ℕ × List (Option (Task K))
+  frame_over number places = (fresh number (min (length places.now) MOST_ROWS), places.ghost_name, drop MOST_ROWS places.now)
 
   -- These holds are those in hand: each bears the table's number, no two are on one row, and a row stands as held exactly where one is on it.
   pub record InHand (t : Table K) (hs : List Hold) : Type 0 where
@@ -48,18 +54,18 @@ module _ {K : Type 0} where
       pub frame : frame_of u ≡ frame_of t
       pub table : h.table ≡ t.number
       pub row : h.row ≡ n
-      pub was : has_held t n ≡ false
+      pub was : IsFalse (has_held t n)
       pub held : (m : ℕ) → has_held u m ≡ (n == m || has_held t m)
 
     -- the hold was spent, which bears the table's number and whose row was held, and its row is held no more
     pub record SpendsHoldOn (h : Hold) : Type 0 where
       pub frame : frame_of u ≡ frame_of t
       pub table : h.table ≡ t.number
-      pub was : has_held t h.row ≡ true
+      pub was : IsTrue (has_held t h.row)
       pub held : (m : ℕ) → has_held u m ≡ (not (h.row == m) && has_held t m)
 
     -- the hold came back: it is of another table, or its row is not held
     pub record HandsBack (h : Hold) (e : SpendRefusal) : Type 0 where
       pub same : handed_back e ≡ h
-      pub why : h.table ≡ t.number → has_held t h.row ≡ false
+      pub why : h.table ≡ t.number → IsFalse (has_held t h.row)
       pub held : SameHeld

@@ -2,8 +2,8 @@
 -- How to read it: a is the account before the two calls, b the one after them, c a row with the meaning of its kind.
 use Rattle.std.specs.Prelude.{◌≡◌, ℕ, List, ◌∷◌, Ok, Err, Result}
 use Rattle.analysis.specs.declared.answers.Answers.{Answers}
-use Rattle.analysis.specs.Judge.{Answered, answers_of}
-use Rattle.analysis.specs.Ranks.{Claim, ranking, loads}
+use Rattle.analysis.specs.Judge.{RowsAnswered, answers_of}
+use Rattle.analysis.specs.Ranks.{Claim}
 use Rattle.table.specs.declared.hold.Hold.{Hold}
 use Rattle.table.specs.declared.refusals.HoldRefusal.{HoldRefusal}
 use Rattle.table.specs.Runs.{Event, holding}
@@ -18,7 +18,7 @@ hold_on a c = record { table = a.number; row = number_of c }
 
 -- the row was accepted, with these answers for all rows then
 abbrev pub AcceptedWith : Account → Claim → Answers → Type 0
-AcceptedWith a c all = Accepted a c (hold_on a c) × Answered (loads (ranking (c ∷ a.rows))) (answers_of all)
+AcceptedWith a c all = Accepted a c (hold_on a c) × RowsAnswered (c ∷ a.rows) (answers_of all)
 
 -- the row was held and kept, or refused, and then nothing has changed
 abbrev pub KeepsRow : Account → Claim → Result Answers HoldRefusal → Account → Type 0
@@ -37,5 +37,6 @@ Passes GiveUp = GivesRowUp
 
 -- What a table has been through when the row was held and its hold spent, or the row refused, behind the calls es.
 abbrev pub passing : Way → ℕ → Claim → Result Answers HoldRefusal → List Event → List Event
-passing way table c (Ok all) es = spending way (on_row table (number_of c)) (Ok tt) ∷ holding c (Ok (on_row table (number_of c))) ∷ es
+passing way table c (Ok all) es =
+    spending way (on_row table (number_of c)) (Ok tt) ∷ holding c (Ok (on_row table (number_of c))) ∷ es
 passing way table c (Err e) es = holding c (Err e) ∷ es

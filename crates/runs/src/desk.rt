@@ -1,16 +1,13 @@
-// A table with the holds that it gave, and lists of calls that are run on it.
-ghost use Rattle.std.specs.Prelude.{◌≡◌, ◌≢◌, ℕ, List, ◌+◌, ◌<◌, ◌≤◌, [], ◌++◌, IfOk, OnErr, OnOk, drop, length, min, map, position, true, false, vec_items, ◌↔◌};
+//! A table with its holds in hand, and calls that are made on it: one by one, or list after list.
+ghost use Rattle.std.specs.Prelude.{◌≡◌, ◌≢◌, ℕ, ◌+◌, ◌<◌, ◌≤◌, [], ◌++◌, IfOk, IsFalse, IsTrue, OnErr, OnOk, map, position, vec_items, ◌↔◌};
 ghost use Rattle.std.specs.Vec.{vec_len, vec_capacity};
-ghost use Rattle.analysis.specs.Judge.{Answered, InTime, answers_of};
-ghost use Rattle.analysis.specs.Ranks.{loads, ranking};
-ghost use Rattle.table.specs.Account.{Account, fresh};
-ghost use Rattle.table.specs.Agreement.{AgreesWith};
+ghost use Rattle.analysis.specs.Judge.{InTime, RowsAnswered, answers_of};
+ghost use Rattle.table.specs.Agreement.{MatchesAccount};
 ghost use Rattle.table.specs.History.{Continues, HasHistory, rows_at};
 ghost use Rattle.table.specs.Memory.{Emptied};
 ghost use Rattle.table.specs.Places.{has_held};
-ghost use Rattle.table.specs.Runs.{Event, holding};
-ghost use Rattle.runs.specs.Calls.{Follow, IsEvent, claim_of, hold_answer, release_of, spend_answer, spending, token};
-ghost use Rattle.runs.specs.Holds.{InHand, frame_of, has_own, is_token};
+ghost use Rattle.runs.specs.Calls.{ContinuesBy, MakesCall, MakesCalls, hold_event, release_of, spend_event};
+ghost use Rattle.runs.specs.Holds.{InHand, frame_of, frame_over, has_own, is_token};
 ghost use Rattle.runs.specs.declared.desk.RunRefusal.TheVariants.{Memory as OutOfMemory};
 
 use super::call::{Call, HoldId, NotHeld, Reply, Way};
@@ -22,8 +19,12 @@ use std::error::Error;
 use std::fmt;
 use table::{Hold, HoldRefusal, SpendRefusal, Table};
 
-/// A table and the holds that it gave and that are not spent. They are in hand: one on each row that stands as held. A desk
-/// that is let go gives up what is held still.
+/// A table and its holds in hand: those that it gave and that are not spent, one on each row that stands as held. A desk that is
+/// let go gives up what is held still.
+///
+/// Calls come as data, and there are two ways to make them. [`Desk::call`] makes one and answers it at once. The others run a list
+/// of calls and answer them together: [`Desk::run`], [`Desk::run_with`] and [`Desk::run_beside`] where holds of other tables may
+/// be named, and [`Desk::open`], which makes the desk first.
 pub struct Desk<'a, K: Kind> {
     register: Register<'a, K>,
     holds: Vec<Hold>,
@@ -35,24 +36,27 @@ pub struct Desk<'a, K: Kind> {
 pub struct Ran {
     /// What each call answered, in order.
     pub replies: Vec<Reply>,
-    /// What `bound` answers for all rows at the end, with their blocking, highest row first.
+    /// What is answered for all rows at the end, highest row first: the bound and the vector that `bound` would answer, and the
+    /// blocking. Bounds and blocking are in ticks.
     pub answers: Answers,
 }
 
-/// Why a list of calls is not run.
+/// Why a list of calls is not run. No call was made then. It has no number, since no check of a table says it.
 #[derive(Clone, Copy, PartialEq, Eq, Debug)]
 pub enum RunRefusal {
-    /// A hold that was handed in bears the number of this table.
+    /// A hold that was handed in bears the number of the table that the calls are for.
     OwnHold,
-    /// There is no memory for the replies or for the holds.
+    /// There is no memory for the replies, or for the holds that the calls may give.
     Memory,
 }
 
 impl fmt::Display for RunRefusal {
     fn fmt<W: fmt::Write>(&self, f: &mut fmt::Formatter<W>) -> fmt::Result {
         f.write_str(match self {
-            RunRefusal::OwnHold => "a hold that was handed in is of the table itself",
-            RunRefusal::Memory => "there is no memory for the replies or the holds",
+            RunRefusal::OwnHold =>
+                "a hold that was handed in bears the number of this table: give each table a number of its own",
+            RunRefusal::Memory =>
+                "there is no memory for the replies or the holds: run fewer calls at a time",
         })
     }
 }
@@ -70,15 +74,12 @@ impl From<AllocError> for RunRefusal {
 impl<'a, K: Kind + Drop> Desk<'a, K> {
     ghost use Rattle.runs.specs.Desk.{CalledAsPromised, KeepsPromise, RunsAsPromised, SameDesk, holds_of, table_of};
 
-    /// An empty table over row memory, of which it uses twelve places at most, and no hold. What stood there is let go.
+    /// An empty table of this number over row memory, and no hold. Of the row memory the first
+    /// [`MOST_ROWS`](analysis::MOST_ROWS) places at most are used, and what stood there is let go. Tables whose holds meet have
+    /// different numbers.
     pub fn new(heap: Global, number: u8, places: &'a mut [Option<Task<K>>]) -> Desk<'a, K>
         ensures history { HasHistory K.demand [] (table_of result) }
-        ensures frame { frame_of (table_of result)
-            ≡ (
-              fresh number (min (length places.old) 12),
-              places.entry.ghost_name,
-              drop 12 places.old,
-            ) }
+        ensures frame { frame_of (table_of result) ≡ frame_over number places.entry }
         ensures memory { Emptied places.old (table_of result).places.now }
     {
         Desk {
@@ -87,14 +88,14 @@ impl<'a, K: Kind + Drop> Desk<'a, K> {
         }
     }
 
-    /// The table, to be looked at.
+    /// The table, to be looked at: its rows, their states, and how many it can still take.
     pub fn table(&self) -> &Table<'a, K>
         ensures { result.now ≡ table_of self.now }
     {
         self.register.table()
     }
 
-    /// The holds in hand.
+    /// The holds in hand, in the order in which they were given.
     pub fn holds(&self) -> &[Hold]
         ensures value { result.now ≡ holds_of self.now }
         ensures in_hand { InHand (table_of self.now) result.now }
@@ -102,17 +103,18 @@ impl<'a, K: Kind + Drop> Desk<'a, K> {
         &self.holds
     }
 
-    /// Number, bound, vector and blocking of all rows, highest first.
+    /// The number, the bound, the vector and the blocking of each row, highest row first. Bounds and blocking are in ticks.
     pub fn answers(&self) -> Answers
         ensures in_time { InTime (rows_at K.demand (table_of self.now)) (answers_of result) }
-        ensures account { (a : Account) → AgreesWith K.demand a (table_of self.now)
-            → Answered (loads (ranking a.rows)) (answers_of result) }
+        ensures account { MatchesAccount K.demand
+            (λ a. RowsAnswered a.rows (answers_of result)) (table_of self.now) }
     {
         self.register.answers()
     }
 
-    /// Makes one call. A call that names a hold which is not in hand is answered as the table would answer it. The only refusal
-    /// is for want of memory, and then nothing has changed.
+    /// Makes one call, and answers it. What the table refuses is a reply and no error. A call that names a hold which is not in
+    /// hand is answered as the table would answer that hold. The only error is want of memory, for the hold that the call may
+    /// give; then the call is not made, and nothing has changed.
     pub fn call(&mut self, heap: Global, call: Call<K>) -> Result<Reply, AllocError>
         ensures promise { IfOk result (λ reply.
             CalledAsPromised K.demand call reply (table_of self.old) (table_of self.new)) }
@@ -126,8 +128,9 @@ impl<'a, K: Kind + Drop> Desk<'a, K> {
         Ok(reply)
     }
 
-    /// Runs a list of calls, in order. A call that names a hold which is not in hand is answered as the table would answer it.
-    /// The only refusal is for want of memory: it comes before any call is made, and nothing has changed.
+    /// Runs a list of calls, in order, each on what the one before it left. A refused call is a reply, and the next one is made.
+    /// A call that names a hold which is not in hand is answered as the table would answer that hold. The only error is want of
+    /// memory: it comes before any call is made, and nothing has changed.
     pub fn run(&mut self, heap: Global, calls: Vec<Call<K>>) -> Result<Ran, AllocError>
         ensures promise { IfOk result (λ ran.
             RunsAsPromised K.demand (vec_items calls) ran (table_of self.old) (table_of self.new)) }
@@ -141,9 +144,11 @@ impl<'a, K: Kind + Drop> Desk<'a, K> {
         Ok(ran)
     }
 
-    /// The same, where holds of other tables are handed in. A call that names one of them hands it to the table, which hands it
-    /// back, and all are where they were when this returns. Refused before any call is made, where nothing has changed: a hold
-    /// that was handed in and bears the table's own number, else want of memory.
+    /// As [`Desk::run`], where holds of other tables are handed in. A call that names one of them hands it to the table, which
+    /// hands it back, and all are where they were when this returns.
+    ///
+    /// An error comes before any call is made, and nothing has changed then: [`RunRefusal::OwnHold`] where a hold that was handed
+    /// in bears the table's own number, else [`RunRefusal::Memory`].
     pub fn run_with(
         &mut self,
         heap: Global,
@@ -155,7 +160,7 @@ impl<'a, K: Kind + Drop> Desk<'a, K> {
         ensures frame { frame_of (table_of self.new) ≡ frame_of (table_of self.old) }
         ensures foreign { vec_items foreign.new ≡ vec_items foreign.old }
         ensures own_hold { (result ≡ Err RunRefusal.OwnHold)
-            ↔ (has_own (table_of self.old).number (vec_items foreign.old) ≡ true) }
+            ↔ IsTrue (has_own (table_of self.old).number (vec_items foreign.old)) }
         ensures refused { OnErr result (SameDesk self.old self.new) }
     {
         if brings_own(foreign, self.register.number()) {
@@ -165,7 +170,7 @@ impl<'a, K: Kind + Drop> Desk<'a, K> {
         Ok(self.make_listed(calls, foreign, replies))
     }
 
-    /// The same, where the holds of other tables are those in hand at another desk.
+    /// As [`Desk::run_with`], where the holds of other tables are those in hand at another desk, which is as it was then.
     pub fn run_beside<L: Kind + Drop>(
         &mut self,
         heap: Global,
@@ -177,15 +182,15 @@ impl<'a, K: Kind + Drop> Desk<'a, K> {
         ensures frame { frame_of (table_of self.new) ≡ frame_of (table_of self.old) }
         ensures other { SameDesk other.old other.new }
         ensures own_hold { (result ≡ Err RunRefusal.OwnHold)
-            ↔ (has_own (table_of self.old).number (holds_of other.old) ≡ true) }
+            ↔ IsTrue (has_own (table_of self.old).number (holds_of other.old)) }
         ensures refused { OnErr result (SameDesk self.old self.new) }
     {
         self.run_with(heap, calls, &mut other.holds)
     }
 
-    /// Makes a table over row memory and runs a list of calls on it, as `run_with` does. The table comes back with the holds
-    /// that are in hand then, and more calls can be run on it. Of the row memory the first twelve places at most are used, and
-    /// what stood there is let go in any case.
+    /// Makes a table over row memory, as [`Desk::new`], and runs a list of calls on it, as [`Desk::run_with`]. The desk comes back
+    /// with the holds that are in hand then, and more calls can be made on it. The errors are those of `run_with`; what stood in
+    /// the row memory is let go then too.
     pub fn open(
         heap: Global,
         number: u8,
@@ -195,26 +200,23 @@ impl<'a, K: Kind + Drop> Desk<'a, K> {
     ) -> Result<(Desk<'a, K>, Ran), RunRefusal>
         ensures promise { IfOk result (λ r.
             KeepsPromise K.demand [] (vec_items calls) r.1 (table_of r.0)) }
-        ensures frame { IfOk result (λ r. frame_of (table_of r.0)
-            ≡ (
-              fresh number (min (length places.old) 12),
-              places.entry.ghost_name,
-              drop 12 places.old,
-            )) }
+        ensures frame { IfOk result (λ r.
+            frame_of (table_of r.0) ≡ frame_over number places.entry) }
         ensures foreign { vec_items foreign.new ≡ vec_items foreign.old }
         ensures own_hold { (result ≡ Err RunRefusal.OwnHold)
-            ↔ (has_own number (vec_items foreign.old) ≡ true) }
+            ↔ IsTrue (has_own number (vec_items foreign.old)) }
     {
         let mut desk = Desk::new(heap, number, places);
         let ran = desk.run_with(heap, calls, foreign)?;
         Ok((desk, ran))
     }
 
-    /// Gives up what is held still: each hold in hand is released, the last one first. The table is answered.
+    /// Gives up what is held still: each hold in hand is released, the last one first. The table comes back, with the rows that
+    /// were kept.
     pub fn close(self) -> Table<'a, K>
-        ensures history { (es : List Event) → HasHistory K.demand es (table_of self.entry)
-            → HasHistory K.demand (map release_of (holds_of self.entry) ++ es) result }
-        ensures none_held { (n : ℕ) → has_held result n ≡ false }
+        ensures history { ContinuesBy K.demand
+            (λ es. map release_of (holds_of self.entry) ++ es) (table_of self.entry) result }
+        ensures none_held { (n : ℕ) → IsFalse (has_held result n) }
         ensures frame { frame_of result ≡ frame_of (table_of self.entry) }
     {
         let Desk {
@@ -222,7 +224,7 @@ impl<'a, K: Kind + Drop> Desk<'a, K> {
             mut holds,
         } = self;
         while let Some(hold) = holds.pop() {
-            register.spend(Way::GiveUp, hold).unwrap();
+            register.give_up(hold);
         }
         holds.destroy_empty();
         let Register { table } = register;
@@ -231,7 +233,8 @@ impl<'a, K: Kind + Drop> Desk<'a, K> {
 
     // Room for so many replies, and for so many holds more.
     fn room_for(&mut self, heap: Global, count: usize) -> Result<Vec<Reply>, AllocError>
-        ensures replies { IfOk result (λ v. (vec_items v ≡ []) × (count ≤ vec_capacity v)) }
+        ensures none { IfOk result (λ replies. vec_items replies ≡ []) }
+        ensures replies { IfOk result (λ replies. count ≤ vec_capacity replies) }
         ensures holds { OnOk result
             (vec_len self.new.holds + count ≤ vec_capacity self.new.holds) }
         ensures same { SameDesk self.old self.new }
@@ -265,12 +268,11 @@ impl<'a, K: Kind + Drop> Desk<'a, K> {
     fn take_in(&mut self, task: Task<K>) -> Result<(), HoldRefusal>
         requires { vec_len self.old.holds < vec_capacity self.old.holds }
         ensures history { Continues K.demand
-            (holding (claim_of K.demand task)
-            (hold_answer (table_of self.old).number task.row.number result))
+            (hold_event K.demand (table_of self.old).number task result)
             (table_of self.old) (table_of self.new) }
         ensures frame { frame_of (table_of self.new) ≡ frame_of (table_of self.old) }
-        ensures room { (vec_len self.new.holds ≤ vec_len self.old.holds + 1)
-            × (vec_capacity self.new.holds ≡ vec_capacity self.old.holds) }
+        ensures one_more { vec_len self.new.holds ≤ vec_len self.old.holds + 1 }
+        ensures capacity { vec_capacity self.new.holds ≡ vec_capacity self.old.holds }
     {
         let hold = self.register.hold(task)?;
         self.holds.push_reserved(hold);
@@ -280,27 +282,25 @@ impl<'a, K: Kind + Drop> Desk<'a, K> {
     // The hold in hand that bears these numbers is spent, if there is one.
     fn spend_own(&mut self, way: Way, id: HoldId) -> Result<(), NotHeld>
         requires { id.table ≡ (table_of self.old).number }
-        ensures history { Continues K.demand
-            (spending way (token id) (spend_answer (token id) result))
+        ensures history { Continues K.demand (spend_event way id result)
             (table_of self.old) (table_of self.new) }
         ensures frame { frame_of (table_of self.new) ≡ frame_of (table_of self.old) }
-        ensures room { (vec_len self.new.holds ≤ vec_len self.old.holds)
-            × (vec_capacity self.new.holds ≡ vec_capacity self.old.holds) }
+        ensures no_more { vec_len self.new.holds ≤ vec_len self.old.holds }
+        ensures capacity { vec_capacity self.new.holds ≡ vec_capacity self.old.holds }
     {
         let place = place_of(&self.holds, id).ok_or(NotHeld)?;
         let hold = self.holds.remove(place);
-        self.register.spend(way, hold).unwrap();
+        self.register.spend_held(way, hold);
         Ok(())
     }
 
     // The hold of another table that bears these numbers, if one was handed in, is handed to this table and comes back.
     fn offer(&mut self, way: Way, id: HoldId, foreign: &mut Vec<Hold>) -> Result<(), NotHeld>
         requires { id.table ≢ (table_of self.old).number }
-        ensures history { Continues K.demand
-            (spending way (token id) (spend_answer (token id) result))
+        ensures history { Continues K.demand (spend_event way id result)
             (table_of self.old) (table_of self.new) }
         ensures frame { frame_of (table_of self.new) ≡ frame_of (table_of self.old) }
-        ensures room { self.new.holds ≡ self.old.holds }
+        ensures holds { self.new.holds ≡ self.old.holds }
         ensures foreign { vec_items foreign.new ≡ vec_items foreign.old }
     {
         if let Some(place) = place_of(foreign, id) {
@@ -313,12 +313,11 @@ impl<'a, K: Kind + Drop> Desk<'a, K> {
 
     // The hold that bears these numbers is spent, or it comes back to where it was.
     fn spend(&mut self, way: Way, id: HoldId, foreign: &mut Vec<Hold>) -> Result<(), NotHeld>
-        ensures history { Continues K.demand
-            (spending way (token id) (spend_answer (token id) result))
+        ensures history { Continues K.demand (spend_event way id result)
             (table_of self.old) (table_of self.new) }
         ensures frame { frame_of (table_of self.new) ≡ frame_of (table_of self.old) }
-        ensures room { (vec_len self.new.holds ≤ vec_len self.old.holds)
-            × (vec_capacity self.new.holds ≡ vec_capacity self.old.holds) }
+        ensures no_more { vec_len self.new.holds ≤ vec_len self.old.holds }
+        ensures capacity { vec_capacity self.new.holds ≡ vec_capacity self.old.holds }
         ensures foreign { vec_items foreign.new ≡ vec_items foreign.old }
     {
         if id.table == self.register.number() {
@@ -331,11 +330,11 @@ impl<'a, K: Kind + Drop> Desk<'a, K> {
     // A call is made.
     fn make(&mut self, call: Call<K>, foreign: &mut Vec<Hold>) -> Reply
         requires { vec_len self.old.holds < vec_capacity self.old.holds }
-        ensures history { (e : Event) × IsEvent K.demand (table_of self.old).number call result e
-            × Continues K.demand e (table_of self.old) (table_of self.new) }
+        ensures history { MakesCall K.demand call result
+            (table_of self.old) (table_of self.new) }
         ensures frame { frame_of (table_of self.new) ≡ frame_of (table_of self.old) }
-        ensures room { (vec_len self.new.holds ≤ vec_len self.old.holds + 1)
-            × (vec_capacity self.new.holds ≡ vec_capacity self.old.holds) }
+        ensures one_more { vec_len self.new.holds ≤ vec_len self.old.holds + 1 }
+        ensures capacity { vec_capacity self.new.holds ≡ vec_capacity self.old.holds }
         ensures foreign { vec_items foreign.new ≡ vec_items foreign.old }
     {
         match call {
@@ -352,11 +351,8 @@ impl<'a, K: Kind + Drop> Desk<'a, K> {
         requires none { vec_items replies.old ≡ [] }
         requires replies { vec_len calls ≤ vec_capacity replies.old }
         requires holds { vec_len self.old.holds + vec_len calls ≤ vec_capacity self.old.holds }
-        ensures history { (es : List Event) → HasHistory K.demand es (table_of self.old)
-            → (all : List Event)
-            × Follow K.demand (table_of self.new).number
-            (vec_items calls) (vec_items replies.new) es all
-            × HasHistory K.demand all (table_of self.new) }
+        ensures history { MakesCalls K.demand (vec_items calls) (vec_items replies.new)
+            (table_of self.old) (table_of self.new) }
         ensures frame { frame_of (table_of self.new) ≡ frame_of (table_of self.old) }
         ensures foreign { vec_items foreign.new ≡ vec_items foreign.old }
     {

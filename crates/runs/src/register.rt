@@ -1,13 +1,15 @@
 // A table that only its own calls have changed, with no hold in hand.
-ghost use Rattle.std.specs.Prelude.{◌≡◌, List, min, [], length, MatchResult, OnErr};
-ghost use Rattle.analysis.specs.Judge.{Answered, InTime, answers_of};
-ghost use Rattle.analysis.specs.Ranks.{loads, ranking};
-ghost use Rattle.table.specs.Account.{Account, fresh};
-ghost use Rattle.table.specs.Agreement.{AgreesWith};
+ghost use Rattle.std.specs.Prelude.{◌≡◌, min, [], length, IsTrue, MatchResult, OnErr};
+ghost use Rattle.analysis.specs.declared.TheConstants.{MOST_ROWS};
+ghost use Rattle.analysis.specs.Candidates.{claim_with};
+ghost use Rattle.analysis.specs.Judge.{InTime, RowsAnswered, answers_of};
+ghost use Rattle.table.specs.Account.{fresh};
+ghost use Rattle.table.specs.Agreement.{AgreesWith, FollowsAccount, MatchesAccount};
 ghost use Rattle.table.specs.History.{Continues, HasHistory, HasSomeHistory, rows_at};
 ghost use Rattle.table.specs.Memory.{Emptied, SameTable};
-ghost use Rattle.table.specs.Runs.{Event, holding, withdrawing, bounding};
-ghost use Rattle.runs.specs.Calls.{claim_of, spending};
+ghost use Rattle.table.specs.Places.{has_held};
+ghost use Rattle.table.specs.Runs.{holding, withdrawing, bounding};
+ghost use Rattle.runs.specs.Calls.{ContinuesBy, release_of, spend_of, spending};
 ghost use Rattle.runs.specs.Holds.{frame_of, SameHeld, GivesHoldOn, SpendsHoldOn, HandsBack};
 ghost use Rattle.runs.specs.Passing.{KeepsRow, GivesRowUp, Passes, passing};
 
@@ -16,8 +18,8 @@ use analysis::{Answers, Row, Task};
 use demand::Kind;
 use table::{BoundRefusal, Hold, HoldRefusal, SpendRefusal, Table, WithdrawRefusal};
 
-/// A table that was made empty and that only its own calls have changed. So `keep` and `release` never refuse a hold that it
-/// has just given, and its rows are in time.
+/// A table that was made empty and that only its own calls have changed. So its rows are in time, and a hold that it has just
+/// given is spent without refusal. It needs no heap, and the holds of its public calls are spent before these return.
 #[derive(Drop)]
 pub struct Register<'a, K: Kind> {
     pub(crate) table: Table<'a, K>,
@@ -25,10 +27,11 @@ pub struct Register<'a, K: Kind> {
 }
 
 impl<'a, K: Kind + Drop> Register<'a, K> {
-    /// An empty table over row memory, of which it uses twelve places at most. What stood there is let go.
+    /// An empty table of this number over row memory, of which it uses the first [`MOST_ROWS`](analysis::MOST_ROWS) places at
+    /// most. What stood there is let go.
     pub fn new(number: u8, places: &'a mut [Option<Task<K>>]) -> Register<'a, K>
         ensures agrees { AgreesWith K.demand
-            (fresh number (min (length places.old) 12)) result.table }
+            (fresh number (min (length places.old) MOST_ROWS)) result.table }
         ensures history { HasHistory K.demand [] result.table }
         ensures memory { Emptied places.old result.table.places.now }
         ensures number { result.table.number ≡ number }
@@ -46,51 +49,45 @@ impl<'a, K: Kind + Drop> Register<'a, K> {
         self.table.number()
     }
 
-    /// The table, to be looked at.
+    /// The table, to be looked at: its rows, their states, and how many it can still take.
     pub fn table(&self) -> &Table<'a, K>
         ensures { result.now ≡ self.now.table }
     {
         &self.table
     }
 
-    /// Number, bound, vector and blocking of all rows, highest first.
+    /// The number, the bound, the vector and the blocking of each row, highest row first. Bounds and blocking are in ticks.
     pub fn answers(&self) -> Answers
         ensures in_time { InTime (rows_at K.demand self.now.table) (answers_of result) }
-        ensures account { (a : Account) → AgreesWith K.demand a self.now.table
-            → Answered (loads (ranking a.rows)) (answers_of result) }
+        ensures account { MatchesAccount K.demand
+            (λ a. RowsAnswered a.rows (answers_of result)) self.now.table }
     {
         self.table.answers().unwrap()
     }
 
-    /// Holds a row and at once keeps it. The answers are those of all rows then. A refusal, by the numbers 5 to 11, changes
-    /// nothing.
+    /// Holds a row and at once keeps it. The answers are those of all rows then. A refusal is that of a hold, by one of the
+    /// checks 5 to 11, and changes nothing.
     pub fn take_in(&mut self, row: Row, kind: K) -> Result<Answers, HoldRefusal>
-        ensures account { (a : Account) → AgreesWith K.demand a self.old.table
-            → (b : Account)
-            × KeepsRow a (record { row = row; demand = K.demand kind }) result b
-            × AgreesWith K.demand b self.new.table }
-        ensures history { (es : List Event) → HasHistory K.demand es self.old.table
-            → HasHistory K.demand
-            (passing Way.KeepRow self.old.table.number
-            (record { row = row; demand = K.demand kind }) result es)
-            self.new.table }
+        ensures account { FollowsAccount K.demand
+            (λ a. KeepsRow a (claim_with K.demand row kind) result) self.old.table self.new.table }
+        ensures history { ContinuesBy K.demand
+            (passing Way.KeepRow self.old.table.number (claim_with K.demand row kind) result)
+            self.old.table self.new.table }
         ensures refused { OnErr result (SameTable self.old.table self.new.table) }
         ensures frame { frame_of self.new.table ≡ frame_of self.old.table }
     {
         self.pass(row, kind, Way::KeepRow)
     }
 
-    /// Holds a row and at once gives it up. The answers are those of all rows with it. Nothing is left behind.
+    /// Holds a row and at once gives it up: whether the row would be taken, and what would be answered then. The answers are
+    /// those of all rows with it, and a refusal is that of a hold, by one of the checks 5 to 11. Either way nothing is left
+    /// behind.
     pub fn try_out(&mut self, row: Row, kind: K) -> Result<Answers, HoldRefusal>
-        ensures account { (a : Account) → AgreesWith K.demand a self.old.table
-            → (b : Account)
-            × GivesRowUp a (record { row = row; demand = K.demand kind }) result b
-            × AgreesWith K.demand b self.new.table }
-        ensures history { (es : List Event) → HasHistory K.demand es self.old.table
-            → HasHistory K.demand
-            (passing Way.GiveUp self.old.table.number
-            (record { row = row; demand = K.demand kind }) result es)
-            self.new.table }
+        ensures account { FollowsAccount K.demand
+            (λ a. GivesRowUp a (claim_with K.demand row kind) result) self.old.table self.new.table }
+        ensures history { ContinuesBy K.demand
+            (passing Way.GiveUp self.old.table.number (claim_with K.demand row kind) result)
+            self.old.table self.new.table }
         ensures refused { OnErr result (SameTable self.old.table self.new.table) }
         ensures frame { frame_of self.new.table ≡ frame_of self.old.table }
     {
@@ -99,15 +96,11 @@ impl<'a, K: Kind + Drop> Register<'a, K> {
 
     // Holds a row and at once spends its hold.
     fn pass(&mut self, row: Row, kind: K, way: Way) -> Result<Answers, HoldRefusal>
-        ensures account { (a : Account) → AgreesWith K.demand a self.old.table
-            → (b : Account)
-            × Passes way a (record { row = row; demand = K.demand kind }) result b
-            × AgreesWith K.demand b self.new.table }
-        ensures history { (es : List Event) → HasHistory K.demand es self.old.table
-            → HasHistory K.demand
-            (passing way self.old.table.number
-            (record { row = row; demand = K.demand kind }) result es)
-            self.new.table }
+        ensures account { FollowsAccount K.demand
+            (λ a. Passes way a (claim_with K.demand row kind) result) self.old.table self.new.table }
+        ensures history { ContinuesBy K.demand
+            (passing way self.old.table.number (claim_with K.demand row kind) result)
+            self.old.table self.new.table }
         ensures refused { OnErr result (SameTable self.old.table self.new.table) }
         ensures frame { frame_of self.new.table ≡ frame_of self.old.table }
     {
@@ -119,10 +112,11 @@ impl<'a, K: Kind + Drop> Register<'a, K> {
         Ok(answers)
     }
 
-    /// Holds a row. The hold is the caller's to spend.
+    // Holds a row. The hold is the caller's to spend.
     pub(crate) fn hold(&mut self, task: Task<K>) -> Result<Hold, HoldRefusal>
         ensures history { Continues K.demand
-            (holding (claim_of K.demand task) result) self.old.table self.new.table }
+            (holding (claim_with K.demand task.row task.kind) result)
+            self.old.table self.new.table }
         ensures held { MatchResult result
             (GivesHoldOn self.old.table self.new.table task.row.number)
             (λ e. SameHeld self.old.table self.new.table) }
@@ -130,7 +124,7 @@ impl<'a, K: Kind + Drop> Register<'a, K> {
         self.table.hold(task.row, task.kind)
     }
 
-    /// Spends a hold, and keeps its row or takes it out.
+    // Spends a hold, and keeps its row or takes it out.
     pub(crate) fn spend(&mut self, way: Way, hold: Hold) -> Result<(), SpendRefusal>
         ensures history { Continues K.demand (spending way hold result)
             self.old.table self.new.table }
@@ -143,7 +137,27 @@ impl<'a, K: Kind + Drop> Register<'a, K> {
         }
     }
 
-    /// Takes a kept row out.
+    // Spends a hold of this table whose row is held.
+    pub(crate) fn spend_held(&mut self, way: Way, hold: Hold)
+        requires own { hold.table ≡ self.old.table.number }
+        requires held { IsTrue (has_held self.old.table hold.row) }
+        ensures history { Continues K.demand (spend_of way hold) self.old.table self.new.table }
+        ensures held { SpendsHoldOn self.old.table self.new.table hold }
+    {
+        self.spend(way, hold).unwrap();
+    }
+
+    // Gives up a hold of this table whose row is held: the row goes out.
+    pub(crate) fn give_up(&mut self, hold: Hold)
+        requires own { hold.table ≡ self.old.table.number }
+        requires held { IsTrue (has_held self.old.table hold.row) }
+        ensures history { Continues K.demand (release_of hold) self.old.table self.new.table }
+        ensures held { SpendsHoldOn self.old.table self.new.table hold }
+    {
+        self.spend_held(Way::GiveUp, hold);
+    }
+
+    // Takes a kept row out.
     pub(crate) fn withdraw(&mut self, number: u32) -> Result<(), WithdrawRefusal>
         ensures history { Continues K.demand (withdrawing number result)
             self.old.table self.new.table }
@@ -152,7 +166,7 @@ impl<'a, K: Kind + Drop> Register<'a, K> {
         self.table.withdraw(number)
     }
 
-    /// The bound and the vector of a row.
+    // The bound and the vector of a row.
     pub(crate) fn bound(&self, number: u32) -> Result<(u32, u32), BoundRefusal>
         ensures { Continues K.demand (bounding number result) self.now.table self.now.table }
     {

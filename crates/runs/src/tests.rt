@@ -183,6 +183,28 @@ fn numbers_of_replies(rt: HostRuntime) {
     );
 }
 
+// What a maintainer reads of each refusal of this crate.
+#[test]
+fn texts_of_refusals(rt: HostRuntime) -> Result<(), Fail> {
+    let heap = rt.alloc();
+    let text = format!(in heap; "{NotHeld}")?;
+    assert_eq!(rt;
+        text.as_str(),
+        "check 12: the hold is another table's, or its row is not held here"
+    );
+    let text = format!(in heap; "{}", RunRefusal::OwnHold)?;
+    assert_eq!(rt;
+        text.as_str(),
+        "a hold that was handed in bears the number of this table: give each table a number of its own"
+    );
+    let text = format!(in heap; "{}", RunRefusal::Memory)?;
+    assert_eq!(rt;
+        text.as_str(),
+        "there is no memory for the replies or the holds: run fewer calls at a time"
+    );
+    Ok(())
+}
+
 // A row is kept without a hold in hand, and one is tried out and leaves nothing behind.
 #[test]
 fn a_register(rt: HostRuntime) -> Result<(), Fail> {

@@ -8,8 +8,8 @@ use Rattle.call_log.proofs.answering.replay.Goals as goal
 pub loop-due-init : goal.loop-due-init
 loop-due-init g c = record { few = c.in_ok-due.ensures.few; said = (c.new-log.result, c.new-log.ensures.left, c.new-log.ensures.number, c.new-log.ensures.well_formed, c.in_ok-due.ensures.tells) }
 
-pub evening-requires : goal.evening-requires
-evening-requires g c = rw c.in-Some.is at c.loop-due.invariant.few
+pub answer_evening-requires : goal.answer_evening-requires
+answer_evening-requires g c = rw c.in-Some.is at c.loop-due.invariant.few
 
 pub loop-due-smaller : goal.loop-due-smaller
 loop-due-smaller g c =
@@ -21,7 +21,7 @@ loop-due-preserved g c =
     let before = c.loop-due.invariant.said in
     let A = g.W.Write.contents c.args.out.now in
     let B = g.W.Write.contents c.loop-due.out in
-    let C = g.W.Write.contents c.evening.new.out in
+    let C = g.W.Write.contents c.answer_evening.new.out in
     record {
       few = c.in_ok-due-2.ensures.few;
       said = (
@@ -29,7 +29,7 @@ loop-due-preserved g c =
         before.1,
         before.2,
         before.3,
-        tells_more before.0 c.loop-due.log c.evening.new.self A B C table_due (due_stage c.loop-due.due) (due_stage c.in_ok-due-2.due) before.4 (rw c.in-Some.is c.in_ok-due-2.ensures.tells),
+        tells_more before.0 c.loop-due.log c.answer_evening.new.self A B C table_due (due_stage c.loop-due.due) (due_stage c.in_ok-due-2.due) before.4 (rw c.in-Some.is c.in_ok-due-2.ensures.tells),
       );
     }
 

@@ -2,9 +2,9 @@
 use Rattle.std.proofs.Common.{subst}
 use Rattle.std.proofs.lemmas.Result.{IfOk-weaker}
 use Rattle.call_log.specs.Logs.{table_due}
-use Rattle.call_log.specs.Reading.{LineTold, due_stage}
+use Rattle.call_log.specs.Reading.{AnswersLine, due_stage}
 use Rattle.call_log.proofs.Tells.{tells_line}
-use Rattle.call_log.proofs.log.Log.opening.Goals as goal
+use Rattle.call_log.proofs.log.Log.read_opening.Goals as goal
 
 pub returns-clause-tells : goal.returns-clause-tells
 returns-clause-tells g c =
@@ -14,4 +14,4 @@ returns-clause-tells g c =
     let n = c.read_table.new.self in
     let A = g.W.Write.contents c.args.out.now in
     let C = g.W.Write.contents c.read_table.new.out in
-    IfOk-weaker c.read_table.result _ _ (λ o told. tells_line l m n A C table_due (due_stage o) due.0 due.1 due.2 (subst (λ X. LineTold m n X C table_due (due_stage o)) due.3 told)) c.read_table.ensures.told
+    IfOk-weaker c.read_table.result _ _ (λ o told. tells_line l m n A C table_due (due_stage o) due.0 due.1 due.2 (subst (λ X. AnswersLine m n X C table_due (due_stage o)) due.3 told)) c.read_table.ensures.told

@@ -6,7 +6,7 @@ use Rattle.runs.specs.Desk.{table_of}
 use Rattle.planfile.specs.Checks.{row_demand}
 use Rattle.call_log.specs.Logs.{clock_due, evening}
 use Rattle.call_log.specs.Reading.{Tells, bytes_left_of}
-use Rattle.call_log.proofs.log.Log.evening.Given as goal
+use Rattle.call_log.proofs.log.Log.answer_evening.Given as goal
 
 abbrev pub invariant-loop-desk : goal.invariant-loop-desk
 invariant-loop-desk g l =

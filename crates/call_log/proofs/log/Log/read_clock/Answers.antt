@@ -7,7 +7,7 @@ use Rattle.planfile.specs.Fault.{at_line, line_blame}
 use Rattle.planfile.specs.Report.{refusal_line}
 use Rattle.call_log.proofs.Says.{clock_refused, clock_says}
 use Rattle.call_log.proofs.Tells.{appends_none, tells_line, told_refused, told_text}
-use Rattle.call_log.proofs.log.Log.clock.Goals as goal
+use Rattle.call_log.proofs.log.Log.read_clock.Goals as goal
 
 pub returns-in-Ok-clause-tells : goal.returns-in-Ok-clause-tells
 returns-in-Ok-clause-tells g c =
