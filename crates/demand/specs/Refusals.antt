@@ -1,6 +1,6 @@
 -- When a kind's numbers are refused, and by which number. Assumes nothing.
 -- How to read it: a check is a pair, whether it applies and its number. Checks stand in lists, and the first that applies counts (`first`).
-use Rattle.std.specs.Prelude.{ℕ, Bool, cond, not, ◌&&◌, ◌||◌, List, [], ◌∷◌, Ok, Err, Result, nat_le, nat_lt}
+use Rattle.std.specs.Prelude.{ℕ, Bool, if◌then◌else◌, not, ◌&&◌, ◌||◌, List, [], ◌∷◌, Ok, Err, Result, nat_le, nat_lt}
 use Rattle.demand.specs.Demand.{Demand}
 use Rattle.demand.specs.declared.KindRefusal.{KindRefusal}
 use Rattle.demand.specs.declared.KindRefusal.TheVariants.{Job, Period, Delay, Speed}
@@ -17,10 +17,14 @@ abbrev pub answer_number : {K : Type 0} → Result K KindRefusal → ℕ
 answer_number (Ok k) = 0
 answer_number (Err e) = refusal_number e
 
+-- what the first check says that applies, and `none` where no check does
+abbrev pub first_of : {A : Type 0} → A → List (Bool × A) → A
+first_of none [] = none
+first_of none (check ∷ checks) = if check.0 then check.1 else first_of none checks
+
 -- the number of the first check that applies, which is 0 where none does
 abbrev pub first : List (Bool × ℕ) → ℕ
-first [] = 0
-first (check ∷ checks) = cond check.0 check.1 (first checks)
+first = first_of 0
 
 -- n is not one from low to high
 abbrev pub is_outside : ℕ → ℕ → ℕ → Bool
