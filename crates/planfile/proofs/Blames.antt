@@ -13,10 +13,10 @@ use Rattle.planfile.specs.declared.fault.LineFault.TheVariants.{Word as OfWord, 
 use Rattle.planfile.specs.declared.fault.Fault.{Fault}
 use Rattle.planfile.specs.declared.fault.Fault.TheVariants.{ReportMemory, File, Line}
 use Rattle.planfile.specs.declared.fault.Blame.{Blame}
-use Rattle.planfile.specs.Fault.{nothing, by, by_field, first_blame, line_blame, blame}
+use Rattle.planfile.specs.Fault.{nothing, by_number, by_field, first_blame, line_blame, blame}
 use Rattle.either.specs.declared.Either.TheVariants.{Left, Right}
 use Rattle.planfile.specs.declared.word.Word.{Word}
-use Rattle.planfile.specs.Checks.{Jobs, fields_due, number_checks, shape_checks, blaming_none, numbers_in, number_in, jobs_checks}
+use Rattle.planfile.specs.Checks.{Jobs, fields_due, number_checks, shape_checks, blames_by_number, numbers_in, number_in, jobs_checks}
 use Rattle.planfile.specs.Reading.{file_checks}
 use Rattle.planfile.specs.Requests.{end_checks}
 use Rattle.planfile.specs.Text.{is_number, field, word_of}
@@ -83,12 +83,12 @@ fault_numbered (Kind e) = kind_numbered e
 fault_numbered (Hold e) = hold_numbered e
 
 -- checks that blame no field are first as their numbers are
-pub first_of_none : (cs : List (Bool × ℕ)) → first_blame (blaming_none cs) ≡ by (first cs)
+pub first_of_none : (cs : List (Bool × ℕ)) → first_blame (blames_by_number cs) ≡ by_number (first cs)
 first_of_none [] = refl
 first_of_none ((true, n) ∷ cs) = refl
 first_of_none ((false, n) ∷ cs) = first_of_none cs
 
-pub numbered_jobs : (jobs : Jobs) → Numbered (blaming_none (jobs_checks jobs))
+pub numbered_jobs : (jobs : Jobs) → Numbered (blames_by_number (jobs_checks jobs))
 numbered_jobs (Left k) = (kind_numbered Job, (kind_numbered Period, tt))
 numbered_jobs (Right k) = (kind_numbered Job, (kind_numbered Period, tt))
 

@@ -5,7 +5,7 @@ use Rattle.std.proofs.lemmas.Bool.{eq-eqb}
 use Rattle.std.specs.List.{AllByRecursion}
 use Rattle.std.proofs.lemmas.List.Elements.{All-from_recursion}
 use Rattle.std.proofs.lemmas.List.Splits.{slice_split_none, slice_split_at}
-use Rattle.planfile.specs.Text.{tab, newline, parted_by, lines, fields, ended}
+use Rattle.planfile.specs.Text.{tab, newline, parted_by, lines, fields, ends_with_newline}
 
 -- no byte is this one
 abbrev pub Lacks : ℕ → List ℕ → Type 0
@@ -101,10 +101,10 @@ unfolding before_last
 last_newline l [] = refl
 last_newline l (m ∷ ms) = ap (λ (t : List ℕ). l ++ newline ∷ t) (last_newline m ms) ∙ sym (append_assoc l (newline ∷ before_last m ms) (newline ∷ []))
 
-ended_push : (t : List ℕ) → ended (t ++ newline ∷ []) ≡ true
+ended_push : (t : List ℕ) → ends_with_newline (t ++ newline ∷ []) ≡ true
 ended_push t =
     let n = length_push t newline in
     eq-eqb (get_or (t ++ newline ∷ []) (length (t ++ newline ∷ []) - 1) 0) newline (get_or_push t newline 0 (length (t ++ newline ∷ []) - 1) (omega arith))
 
-pub lines_ended : (l : List ℕ) (ls : List (List ℕ)) → ended (with_newlines (l ∷ ls)) ≡ true
-lines_ended l ls = ap ended (last_newline l ls) ∙ ended_push (before_last l ls)
+pub lines_ended : (l : List ℕ) (ls : List (List ℕ)) → ends_with_newline (with_newlines (l ∷ ls)) ≡ true
+lines_ended l ls = ap ends_with_newline (last_newline l ls) ∙ ended_push (before_last l ls)

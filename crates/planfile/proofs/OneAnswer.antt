@@ -18,7 +18,7 @@ use Rattle.planfile.specs.declared.fault.Blame.{Blame}
 use Rattle.planfile.specs.Fault.{nothing, at_line, first_blame, line_blame, blame}
 use Rattle.planfile.specs.Text.{fields}
 use Rattle.planfile.specs.Checks.{clock_checks, entry_of}
-use Rattle.planfile.specs.Reading.{taking, claim_in, first_fields, file_checks, RowTaken, RowRefused, RowsRead, FileRead}
+use Rattle.planfile.specs.Reading.{account_with, claim_in, first_fields, file_checks, RowTaken, RowRefused, RowsRead, FileRead}
 use Rattle.planfile.specs.Loading.{Loaded}
 use Rattle.planfile.specs.Laws.{row_lines, factor_of, OneAnswer}
 use Rattle.planfile.proofs.FileOrder.{rows_are}
@@ -59,7 +59,7 @@ late_or_none NoPlace = inr refl
 late_or_none (Late n) = inl refl
 
 -- two refusals of one row say the same
-refused_once : (rows : List Claim) (c : Claim) → LawfulRows (c ∷ rows) → (d e : HoldRefusal) → Refused (taking rows) c d → Refused (taking rows) c e → line_blame (Hold d) ≡ line_blame (Hold e)
+refused_once : (rows : List Claim) (c : Claim) → LawfulRows (c ∷ rows) → (d e : HoldRefusal) → Refused (account_with rows) c d → Refused (account_with rows) c e → line_blame (Hold d) ≡ line_blame (Hold e)
 refused_once rows c lawful d e p q =
     let same : hold_number d ≡ hold_number e = numbered_once (hold_number d) (hold_number e) (at_least_five d) (at_least_five e) (sym p.by_number ∙ q.by_number) in
     let late = go same (late_or_none d) (late_or_none e) in

@@ -5,7 +5,7 @@ use Rattle.std.proofs.lemmas.Bool.{cases_Bool, eq-eqb, eqb-true, ne_eqb}
 use Rattle.std.specs.List.{onto_first}
 use Rattle.std.proofs.lemmas.List.Splits.{length-slice_split}
 use Rattle.std.proofs.lemmas.List.Sums.{count_by-le-length}
-use Rattle.planfile.specs.Text.{newline, parted_by, lines, ended}
+use Rattle.planfile.specs.Text.{newline, parted_by, lines, ends_with_newline}
 
 -- a text in front of the first part
 abbrev pub onto_front : List ℕ → List (List ℕ) → List (List ℕ)
@@ -95,7 +95,7 @@ few_lines text =
     simp length-take (omega arith)
 
 -- a text that is ended by a newline has a line
-pub ended_line : (text : List ℕ) → ended text ≡ true → 0 < length (lines text)
+pub ended_line : (text : List ℕ) → ends_with_newline text ≡ true → 0 < length (lines text)
 ended_line [] e = let z : ◌≡◌ {A = ℕ} 0 10 = eqb-true 0 10 e in omega arith
 ended_line (b ∷ bs) e =
     let text : List ℕ = b ∷ bs in

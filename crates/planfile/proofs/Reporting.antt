@@ -11,7 +11,7 @@ use Rattle.table.specs.Agreement.{LawfulRows}
 use Rattle.table.proofs.Shared.{passed, needs_grow, length_ranks}
 use Rattle.demand.specs.declared.factor.Factor.{Factor}
 use Rattle.planfile.specs.Checks.{entry_of}
-use Rattle.planfile.specs.Reading.{taking, claim_in, RowTaken, RowsRead, LinesRead}
+use Rattle.planfile.specs.Reading.{account_with, claim_in, RowTaken, RowsRead, LinesRead}
 use Rattle.planfile.specs.Report.{report}
 use Rattle.planfile.specs.Text.{fields}
 use Rattle.planfile.proofs.ReportSize.{SmallAnswer, report_fits}
@@ -29,7 +29,7 @@ AllLimited (c ∷ cs) = Limited c × AllLimited cs
 -- a row that is taken is within its limits, and there was room for it
 row_limited : (clock : Factor) (rows : List Claim) (fs : List (List ℕ)) → RowTaken clock rows fs → Limited (claim_in clock fs) × (length rows < 12)
 row_limited clock rows fs taken =
-    let p = passed (taking rows) (claim_in clock fs) taken.accepted.passes in
+    let p = passed (account_with rows) (claim_in clock fs) taken.accepted.passes in
     let law = claim_lawful clock (entry_of fs) in
     (record { number = p.byte; deadline = let a = p.deadline in let b = law.spacing_limited in omega arith }, p.room)
 

@@ -8,10 +8,10 @@ use Rattle.table.specs.Account.{Refused}
 use Rattle.demand.specs.declared.factor.Factor.{Factor}
 use Rattle.planfile.specs.declared.fault.Fault.{Fault}
 use Rattle.planfile.specs.declared.fault.Blame.{Blame}
-use Rattle.planfile.specs.Fault.{nothing, by, first_blame, blame}
-use Rattle.planfile.specs.Text.{newline, lines, fields, ended}
+use Rattle.planfile.specs.Fault.{nothing, by_number, first_blame, blame}
+use Rattle.planfile.specs.Text.{newline, lines, fields, ends_with_newline}
 use Rattle.planfile.specs.Checks.{Entry, clock_checks, clock_of, line_checks, claim_of}
-use Rattle.planfile.specs.Reading.{taking, first_fields, file_checks, RowRefused, RowsRead, FileRead}
+use Rattle.planfile.specs.Reading.{account_with, first_fields, file_checks, RowRefused, RowsRead, FileRead}
 use Rattle.planfile.specs.Loading.{Loaded}
 use Rattle.planfile.specs.Laws.{plan_text, claims_onto, NumbersPass, SoundPlan, RoundTrip}
 use Rattle.planfile.proofs.FileOrder.{not_both, same_ok}
@@ -31,7 +31,7 @@ module _ (clock : Factor) where
       no_blame (first_blame (line_checks (fields (row_line e)))) b (row_passes e s.numbers.0 s.numbers.1) x.0 x.1
   line_not_refused rows e es s b (inr x) =
       entry_not_refused clock rows e es s x.1.0
-      (subst (λ (f : Entry). Refused (taking rows) (claim_of clock f) x.1.0) (entry_is e s.numbers.0) x.1.1)
+      (subst (λ (f : Entry). Refused (account_with rows) (claim_of clock f) x.1.0) (entry_is e s.numbers.0) x.1.1)
 
   -- the written row lines give the rows of the entries, and nothing else
   rows_read : (n : ℕ) (rows : List Claim) (es : List Entry) → SoundBehind clock rows es → (r : Result (List Claim) Blame) → RowsRead clock n rows (map row_line es) r → r ≡ Ok (claims_onto clock rows es)
@@ -80,9 +80,9 @@ module _ (clock : Factor) (es : List Entry) (sound : SoundPlan clock es) where
 
   file_passes : (room : ℕ) → 512 ≤ room → first_blame (file_checks whole room) ≡ nothing
   file_passes room enough =
-      cond-false (ltb room 512) (by 19) (cond (ltb 4096 (length whole) || not (ended whole)) (by 18) nothing) (le-ltb room 512 enough)
-      ∙ cond-false (ltb 4096 (length whole) || not (ended whole)) (by 18) nothing
-      (or_from (ltb 4096 (length whole)) (not (ended whole)) (le-ltb 4096 (length whole) few_bytes) (not_from_true (ended whole) (lines_ended (clock_line clock) (map row_line es))))
+      cond-false (ltb room 512) (by_number 19) (cond (ltb 4096 (length whole) || not (ends_with_newline whole)) (by_number 18) nothing) (le-ltb room 512 enough)
+      ∙ cond-false (ltb 4096 (length whole) || not (ends_with_newline whole)) (by_number 18) nothing
+      (or_from (ltb 4096 (length whole)) (not (ends_with_newline whole)) (le-ltb 4096 (length whole) few_bytes) (not_from_true (ends_with_newline whole) (lines_ended (clock_line clock) (map row_line es))))
 
   first_line : first_fields whole ≡ fields (clock_line clock)
   first_line = ap (λ (ls : List (List ℕ)). fields (get_or ls 0 [])) lines_of

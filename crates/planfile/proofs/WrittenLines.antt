@@ -1,21 +1,23 @@
 -- What the lines of a written plan file are. Assumes nothing.
 use Rattle.std.proofs.Common.{◌≡◌, ℕ, ◌<◌, ◌≤◌, true, false, not, leb, List, [], ◌∷◌, ◌++◌, map, length, codes, decimal, sym, refl, ap, ◌∙◌, arith}
+use Rattle.std.specs.Char.{is_ascii_digit}
+use Rattle.std.specs.Str.{all_ascii_digits}
 use Rattle.std.proofs.lemmas.Fmt.{digits_decimal, digits_value-decimal, decimal_nonempty, length-decimal-le}
 use Rattle.std.proofs.lemmas.List.{append_assoc, length-append, length-map}
 use Rattle.std.proofs.lemmas.Bool.{and_parts, leb-true, ne_eqb, not_from_true}
 use Rattle.demand.specs.declared.factor.Factor.{Factor}
 use Rattle.either.specs.declared.Either.TheVariants.{Left, Right}
 use Rattle.planfile.specs.Checks.{Jobs, Entry}
-use Rattle.planfile.specs.Text.{newline, tab, is_digit, all_digits, value, is_number}
+use Rattle.planfile.specs.Text.{newline, tab, value, is_number}
 use Rattle.planfile.specs.Report.{number_fields}
 use Rattle.planfile.specs.Laws.{jobs_text, numbers_of, row_text, rows_text, clock_text, plan_text, AllFit, jobs_numbers, Writable}
 use Rattle.planfile.proofs.Numbers.{own, number_from}
 use Rattle.planfile.proofs.Joined.{Lacks, Part, Parts, parts_append, tabbed, tabbed_append, with_newlines}
 
-digits_lack : (separator : ℕ) → separator < 48 → (ds : List ℕ) → all_digits ds ≡ true → Lacks separator ds
+digits_lack : (separator : ℕ) → separator < 48 → (ds : List ℕ) → all_ascii_digits ds ≡ true → Lacks separator ds
 digits_lack separator low [] h = tt
 digits_lack separator low (b ∷ ds) h =
-    let both = and_parts (is_digit b) (all_digits ds) h in
+    let both = and_parts (is_ascii_digit b) (all_ascii_digits ds) h in
     let digit = and_parts (leb 48 b) (leb b 57) both.0 in
     let least = leb-true 48 b digit.0 in
     (ne_eqb b separator (λ e. omega arith), digits_lack separator low ds both.1)

@@ -4,9 +4,9 @@ use Rattle.demand.specs.Refusals.{first, slowed_checks}
 use Rattle.planfile.proofs.Blames.{NoneApply, none_front, none_append, first_of_none}
 use Rattle.demand.specs.declared.factor.Factor.{Factor}
 use Rattle.either.specs.declared.Either.TheVariants.{Left, Right}
-use Rattle.planfile.specs.Fault.{nothing, first_blame, by}
+use Rattle.planfile.specs.Fault.{nothing, first_blame, by_number}
 use Rattle.planfile.specs.Text.{fields, field, word_of, value, is_number}
-use Rattle.planfile.specs.Checks.{Jobs, Entry, number_checks, blaming_none, clock_of, clock_checks, entry_of, jobs_in, shape_checks, text_checks, kind_checks, line_checks}
+use Rattle.planfile.specs.Checks.{Jobs, Entry, number_checks, blames_by_number, clock_of, clock_checks, entry_of, jobs_in, shape_checks, text_checks, kind_checks, line_checks}
 use Rattle.planfile.specs.Laws.{numbers_of, AllFit, jobs_numbers, Writable}
 use Rattle.planfile.proofs.Joined.{Parts, fields_are}
 use Rattle.planfile.proofs.WrittenLines.{reads, number_passes, decimal_parts, row_parts, row_parts_are, row_word, row_line, clock_word, clock_parts, clock_line}
@@ -43,10 +43,10 @@ module _ (clock : Factor) (numerator : clock.numerator ≤ 4_294_967_295) (denom
   pub clock_passes : first (slowed_checks clock.numerator clock.denominator) ≡ 0 → first_blame (clock_checks (fields (clock_line clock))) ≡ nothing
   clock_passes z =
       ap (λ (fs : List (List ℕ)). first_blame (clock_checks fs)) first_fields_are
-      ∙ none_front (number_checks (clock_written clock) 2 2) (blaming_none (slowed_checks (value (decimal clock.numerator)) (value (decimal clock.denominator))))
+      ∙ none_front (number_checks (clock_written clock) 2 2) (blames_by_number (slowed_checks (value (decimal clock.numerator)) (value (decimal clock.denominator))))
       (numbers_pass (clock_written clock) 2 (clock.numerator ∷ clock.denominator ∷ []) (refl, (refl, tt)) (numerator, (denominator, tt)))
-      ∙ ap (λ (c : Factor). first_blame (blaming_none (slowed_checks c.numerator c.denominator))) clock_says
-      ∙ (first_of_none (slowed_checks clock.numerator clock.denominator) ∙ ap by z)
+      ∙ ap (λ (c : Factor). first_blame (blames_by_number (slowed_checks c.numerator c.denominator))) clock_says
+      ∙ (first_of_none (slowed_checks clock.numerator clock.denominator) ∙ ap by_number z)
 
 -- the first n of a list, 0 where there are fewer
 abbrev firsts : ℕ → List ℕ → List ℕ
@@ -147,6 +147,6 @@ module _ (e : Entry) (w : Writable e) where
   pub row_passes : first (kind_checks e) ≡ 0 → first_blame (line_checks (fields (row_line e))) ≡ nothing
   row_passes z =
       ap (λ (fs : List (List ℕ)). first_blame (line_checks fs)) row_fields_are
-      ∙ none_front (text_checks (row_written e)) (blaming_none (kind_checks (entry_of (row_written e)))) said.0
-      ∙ ap (λ (f : Entry). first_blame (blaming_none (kind_checks f))) said.1
-      ∙ (first_of_none (kind_checks e) ∙ ap by z)
+      ∙ none_front (text_checks (row_written e)) (blames_by_number (kind_checks (entry_of (row_written e)))) said.0
+      ∙ ap (λ (f : Entry). first_blame (blames_by_number (kind_checks f))) said.1
+      ∙ (first_of_none (kind_checks e) ∙ ap by_number z)

@@ -16,20 +16,20 @@ use runs::{Call, HoldId};
 /// The table that a table line asks for.
 #[derive(Clone, Copy, PartialEq, Eq, Debug)]
 pub struct Opening {
-    /// The table's number.
+    /// The table's number, 0 to 255.
     pub number: u8,
-    /// How many places it is to have, 12 at most.
+    /// How many places it is to have, 0 to [`MOST_ROWS`](analysis::MOST_ROWS).
     pub places: usize,
 }
 
-/// What a line of an evening asks.
+/// What a line of an evening asks. An evening is what a log has from one table line to the next.
 #[derive(Drop)]
 pub enum Request {
-    /// The evening is over. What else the line says, as a table line, `read_opening` reads.
+    /// The evening is over: the line begins with the word of a table line, and [`read_opening`] reads what else it says.
     Table,
     /// A call on the table.
     Call(Call<RowKind>),
-    /// What stands in the table.
+    /// The bounds of all rows that stand in the table.
     Rows,
 }
 
@@ -86,7 +86,7 @@ fn read_number_behind(line: &Line) -> Result<u32, LineFault>
 // The table of a table line, by the numbers behind its first word.
 fn read_table(line: &Line) -> Result<Opening, LineFault>
     ensures table { Reads (table_checks line.now) (opening_of line.now) result }
-    ensures few { IfOk result (λ table. table.places ≤ 12) }
+    ensures few { IfOk result (λ table. table.places ≤ MOST_ROWS) }
 {
     check_count(line, 3)?;
     let number = number_up_to(line, 2, u32::from(u8::MAX))? as u8;
@@ -106,11 +106,12 @@ fn read_task(line: &Line, clock: Factor) -> Result<Task<RowKind>, LineFault>
     Ok(Task { row, kind })
 }
 
-/// Reads a line that has to be a table line, with its newline; what follows the newline is not looked at. The codes of a
-/// refusal are 15 to 18.
+/// Reads a line that has to be a table line, with its newline; what follows the newline is not looked at. An `Err` is the first
+/// check that applies: 18 for the length or the newline of the line, 17 for its word, 15 for the number of its fields, 16 for a
+/// number.
 pub fn read_opening(text: &[u8]) -> Result<Opening, LineFault>
     ensures table { Reads (opening_checks text.now) (opening_of (first_fields text.now)) result }
-    ensures few { IfOk result (λ table. table.places ≤ 12) }
+    ensures few { IfOk result (λ table. table.places ≤ MOST_ROWS) }
 {
     let line = cut(text)?;
     let Verb::Table = read_verb(line.first()) else {
@@ -119,8 +120,9 @@ pub fn read_opening(text: &[u8]) -> Result<Opening, LineFault>
     read_table(&line)
 }
 
-/// Reads a line that has to be a clock line, with its newline; what follows the newline is not looked at. The codes of a
-/// refusal are 4 and 15 to 18.
+/// Reads a line that has to be a clock line, with its newline; what follows the newline is not looked at. The answer is the
+/// factor by which all jobs are slowed. An `Err` is the first check that applies: 18, 17, 15 or 16 as for a table line, or 4 for
+/// a factor that no clock can have.
 pub fn read_clock_line(text: &[u8]) -> Result<Factor, LineFault>
     ensures { Reads (clock_line_checks text.now) (clock_of (first_fields text.now)) result }
 {
@@ -128,7 +130,8 @@ pub fn read_clock_line(text: &[u8]) -> Result<Factor, LineFault>
 }
 
 /// Reads a line of an evening, with its newline: what it asks of the table of this number, whose clock has this factor. What
-/// follows the newline is not looked at. The codes of a refusal are 1 to 3 and 15 to 18.
+/// follows the newline is not looked at. An `Err` is the first check that applies: 18, 17, 15 or 16 as for a table line, or 1 to
+/// 3 for the kind of a row. Whether the table accepts the call is not looked at.
 pub fn read_request(text: &[u8], clock: Factor, table: u8) -> Result<Request, LineFault>
     ensures { RequestRead clock table text.now result }
 {

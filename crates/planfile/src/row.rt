@@ -1,11 +1,10 @@
 // Clock lines and row lines, from fields to a clock and to rows of a table.
-ghost use Rattle.std.specs.Prelude.{◌≡◌, ◌-◌, ◌<◌, ◌≤◌, List, ◌∷◌, ◌++◌, length, MatchResult};
+ghost use Rattle.std.specs.Prelude.{◌≡◌, ◌<◌, ◌≤◌, List, length};
 ghost use Rattle.analysis.specs.Ranks.{Claim};
 ghost use Rattle.table.specs.Agreement.{AgreesWith};
 ghost use Rattle.planfile.specs.Text.{field, word_of};
-ghost use Rattle.planfile.specs.Fault.{line_blame};
-ghost use Rattle.planfile.specs.Checks.{clock_checks, clock_of, shape_checks, number_checks, number_in, numbers_in, fields_due, row_of, jobs_in, jobs_checks, blaming_none, line_checks, row_checks, task_of, row_demand, Reads};
-ghost use Rattle.planfile.specs.Reading.{taking, claim_in, RowTaken, RowRefused, RowsKept};
+ghost use Rattle.planfile.specs.Checks.{clock_checks, clock_of, shape_checks, number_checks, number_in, numbers_in, fields_due, row_of, jobs_in, behind_word_checks, line_checks, row_checks, task_of, row_demand, Reads};
+ghost use Rattle.planfile.specs.Reading.{account_with, RowRead};
 ghost use Rattle.planfile.specs.Cut.{Keeps};
 
 use super::LineFault;
@@ -19,7 +18,7 @@ use runs::Register;
 // The jobs of a row.
 type Jobs = Either<Every, Heavy>;
 
-/// The kind of a row: its jobs, delayed, and slowed by the clock.
+/// The kind of a row of a plan file: its jobs, each late by up to the delay, and all slowed by the clock's factor.
 pub type RowKind = Slowed<Delayed<Jobs>>;
 
 // The number in the field of this index, from 1, or the fault that names the field.
@@ -99,7 +98,7 @@ fn read_plain(line: &Line) -> Result<(Row, u32), LineFault>
 fn read_jobs(line: &Line, kind: Word) -> Result<Jobs, LineFault>
     requires named { 0 < fields_due kind }
     requires due { length line.now ≡ fields_due kind }
-    ensures { Reads (number_checks line.now 17 (length line.now - 16) ++ blaming_none (jobs_checks (jobs_in line.now kind))) (jobs_in line.now kind) result }
+    ensures { Reads (behind_word_checks line.now kind) (jobs_in line.now kind) result }
 {
     match kind {
         Word::Heavy => {
@@ -140,11 +139,8 @@ pub(crate) fn take_row(
     clock: Factor,
     register: &mut Register<RowKind>,
 ) -> Result<Answers, LineFault>
-    ensures { (rows : List Claim) → AgreesWith row_demand (taking rows) register.old.table
-        → MatchResult result
-        (λ all. RowTaken clock rows line.now
-        × RowsKept (claim_in clock line.now ∷ rows) register.new.table all)
-        (λ f. RowRefused clock rows line.now (line_blame f)) }
+    ensures { (rows : List Claim) → AgreesWith row_demand (account_with rows) register.old.table
+        → RowRead clock rows line.now result register.new.table }
 {
     let Task { row, kind } = read_row_line(line)?;
     let kind = Slowed {
