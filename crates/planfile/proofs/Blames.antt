@@ -1,6 +1,7 @@
 -- The first check of a list that applies, over lists in a row. Assumes nothing.
 use Rattle.std.proofs.Common.{◌≡◌, ℕ, zero, suc, ◌+◌, ◌-◌, ◌<◌, ◌≤◌, Bool, true, false, not, ◌≢◌, List, [], ◌∷◌, ◌++◌, length, sym, refl, ap, ◌∙◌, add-zero, zero-add, arith, ltb-false, eqb-true}
 use borrow.Author.Tests.{eqb-false, not-false}
+use Rattle.std.specs.List.{AllByRecursion}
 use Rattle.std.proofs.lemmas.Bool.{cond-false}
 use Rattle.demand.specs.declared.KindRefusal.{KindRefusal}
 use Rattle.demand.specs.declared.KindRefusal.TheVariants.{Job, Period, Delay, Speed}
@@ -23,8 +24,7 @@ use Rattle.planfile.specs.Text.{is_number, field, word_of}
 
 -- each check has a number
 abbrev pub Numbered : List (Bool × Blame) → Type 0
-Numbered [] = Unit {0}
-Numbered (check ∷ checks) = (check.1.number ≢ 0) × Numbered checks
+Numbered = AllByRecursion (λ check. check.1.number ≢ 0)
 
 nonzero : (m n : ℕ) → m ≡ suc n → m ≢ 0
 nonzero m n e z = omega arith
@@ -122,8 +122,7 @@ one_more fs start i before here =
 
 -- no check applies
 abbrev pub NoneApply : List (Bool × Blame) → Type 0
-NoneApply [] = Unit {0}
-NoneApply (check ∷ checks) = (check.0 ≡ false) × NoneApply checks
+NoneApply = AllByRecursion (λ check. check.0 ≡ false)
 
 pub none_apply : (xs : List (Bool × Blame)) → Numbered xs → first_blame xs ≡ nothing → NoneApply xs
 none_apply [] all e = tt

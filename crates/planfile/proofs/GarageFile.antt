@@ -1,5 +1,5 @@
 -- How the files of the worked garage are read, computed. Assumes nothing.
-use Rattle.std.proofs.Common.{◌≡◌, ℕ, T, leb, List, [], ◌∷◌, get_or, Ok, Err, Result, refl, inl, inr}
+use Rattle.std.proofs.Common.{◌≡◌, ℕ, T, leb, List, [], ◌∷◌, slice_index_or, Ok, Err, Result, refl, inl, inr}
 use Rattle.analysis.specs.Ranks.{Claim}
 use Rattle.demand.specs.Refusals.{first}
 use Rattle.table.specs.declared.hold.Hold.{Hold as Token}
@@ -18,7 +18,7 @@ use Rattle.planfile.proofs.GarageRows.{row_1, row_2, row_3, one_row, two_rows}
 
 -- a row line of a file
 abbrev line_at : List ℕ → ℕ → List ℕ
-line_at text i = get_or (row_lines text) i []
+line_at text i = slice_index_or (row_lines text) i []
 
 -- the fields of the card reader's line, which is the same in all files
 abbrev reader : List (List ℕ)

@@ -1,7 +1,8 @@
 -- Numbers that are read, and numbers that are written. Assumes nothing.
-use Rattle.std.proofs.Common.{◌≡◌, ℕ, suc, ◌+◌, ◌-◌, ◌*◌, ◌^◌, ◌<◌, ◌≤◌, Bool, true, false, not, ltb, leb, ◌⊎◌, Option, Some, None, List, [], ◌∷◌, ◌++◌, map, length, get_or, take, drop, Bor, IfOk, Ok, Err, decimal, Result, sym, refl, ap, ◌∙◌, subst, inl, inr, arith, rules, MatchOption}
+use Rattle.std.proofs.Common.{◌≡◌, ℕ, suc, ◌+◌, ◌-◌, ◌*◌, ◌^◌, ◌<◌, ◌≤◌, Bool, true, false, not, ltb, leb, ◌⊎◌, Option, Some, None, List, [], ◌∷◌, ◌++◌, map, length, slice_index_or, take, drop, Bor, IfOk, Ok, Err, decimal, Result, sym, refl, ap, ◌∙◌, subst, inl, inr, arith, rules, MatchOption}
 use Rattle.std.specs.Char.{is_ascii_digit}
 use Rattle.std.specs.Str.{all_ascii_digits}
+use Rattle.std.proofs.lemmas.List.Sums.{fold-append}
 use Rattle.std.specs.Iterator.{YieldsThen}
 use Rattle.std.specs.List.{FoldsTo}
 use Rattle.std.proofs.lemmas.Fmt.{decimal-digits_value, digits_value-decimal, digits_decimal, decimal_nonempty}
@@ -15,7 +16,7 @@ use Rattle.demand.specs.Refusals.{first}
 use Rattle.planfile.specs.declared.fault.FieldFault.{FieldFault}
 use Rattle.planfile.specs.declared.fault.FieldFault.TheVariants.{NotNumber}
 use Rattle.planfile.specs.Checks.{field_checks, NumberRead}
-use Rattle.planfile.specs.Text.{DigitsPushed, value_after, value, is_number}
+use Rattle.planfile.specs.Text.{DigitsPushed, with_digit, value_after, value, is_number}
 
 -- the words of a plan file's numbers are those of digits in base ten
 pub own : IsNumeralModel (λ ds. all_ascii_digits ds ≡ true) (value_after 0)
@@ -34,8 +35,7 @@ digits_append (b ∷ p) q e =
     rw both.0 (digits_append p q both.1)
 
 value_append : (n : ℕ) (p q : List ℕ) → value_after n (p ++ q) ≡ value_after (value_after n p) q
-value_append n [] q = refl
-value_append n (b ∷ p) q = value_append (n * 10 + (b - 48)) p q
+value_append = fold-append with_digit
 
 -- digits are pushed one by one
 pub digits_pushed : {F : Type 0} (turn : F × ℕ → Bor ℕ → F × ℕ → Type 0) → ((p : F × ℕ) (x : Bor ℕ) (q : F × ℕ) → turn p x q → (is_ascii_digit x.now ≡ true) × (q.1 ≡ p.1 * 10 + (x.now - 48)) × (q.1 < 2 ^ 32)) → (xs : List (Bor ℕ)) (p q : F × ℕ) → FoldsTo turn p xs q → p.1 < 2 ^ 32 → (all_ascii_digits (map (λ x. x.now) xs) ≡ true) × (q.1 ≡ value_after p.1 (map (λ x. x.now) xs)) × (q.1 < 2 ^ 32)
@@ -47,7 +47,7 @@ digits_pushed turn one (x ∷ xs) p q (j, t, more) fits =
 
 -- where the bytes that were taken end: behind the last, or at the byte at hand
 pub turned : {S : Type 0} {steps : S → Option (Bor ℕ) → S → Type 0} {s : S} (all : List ℕ) → YieldsList steps (λ x. x.now) s all → (xs : List (Bor ℕ)) (o : Option (Bor ℕ)) (u : S) → YieldsThen steps s xs o u
-    → (map (λ x. x.now) xs ≡ take (length xs) all) × MatchOption o (length xs ≡ length all) (λ x. (length xs < length all) × (x.now ≡ get_or all (length xs) x.now))
+    → (map (λ x. x.now) xs ≡ take (length xs) all) × MatchOption o (length xs ≡ length all) (λ x. (length xs < length all) × (x.now ≡ slice_index_or all (length xs) x.now))
 turned all e xs None u (t, y, step) = (YieldsList-so_far e xs t y, (YieldsList-end e xs t y None u refl step).1)
 turned all e xs (Some x) u (t, y, step) = (YieldsList-so_far e xs t y, YieldsList-turn e xs t y (Some x) u x refl step)
 
@@ -61,7 +61,7 @@ module _ (n : ℕ) (f : List ℕ) (k a : ℕ) (digits : all_ascii_digits (take k
       inr (omega arith)
 
   -- all bytes were pushed, or the one at hand was not
-  pub pushed : (o : Option (Bor ℕ)) (r : Option ℕ) (Stops : Bor ℕ → Type 0) → MatchOption o (k ≡ length f) (λ x. (k < length f) × (x.now ≡ get_or f k x.now)) → MatchOption o (r ≡ Some a) Stops → ((x : Bor ℕ) → Stops x → (r ≡ None) × ((is_ascii_digit x.now ≡ false) ⊎ (2 ^ 32 ≤ a * 10 + (x.now - 48)))) → DigitsPushed n f r
+  pub pushed : (o : Option (Bor ℕ)) (r : Option ℕ) (Stops : Bor ℕ → Type 0) → MatchOption o (k ≡ length f) (λ x. (k < length f) × (x.now ≡ slice_index_or f k x.now)) → MatchOption o (r ≡ Some a) Stops → ((x : Bor ℕ) → Stops x → (r ≡ None) × ((is_ascii_digit x.now ≡ false) ⊎ (2 ^ 32 ≤ a * 10 + (x.now - 48)))) → DigitsPushed n f r
   pushed None r Stops end e stops =
       let whole : take k f ≡ f = take_all k f (omega arith) in
       rw e (sym (ap all_ascii_digits whole) ∙ digits, so_far ∙ ap (value_after n) whole, fits)
@@ -119,7 +119,7 @@ reads_written f (Err x) p n small e =
     absurd (grind (arith, p, number_from f some it.1 (omega (arith, it.0))))
 
 -- a number without leading zeros is what is written of its value
-pub writes_read : (f : List ℕ) (r : Result ℕ FieldFault) → NumberRead f r → IfOk r (λ n. (get_or f 0 0 ≡ 48 → length f ≡ 1) → decimal n ≡ f)
+pub writes_read : (f : List ℕ) (r : Result ℕ FieldFault) → NumberRead f r → IfOk r (λ n. (slice_index_or f 0 0 ≡ 48 → length f ≡ 1) → decimal n ≡ f)
 writes_read f (Ok m) (p, q) =
     λ plain. let parts = number_parts f (is_read f p) in
     ap decimal q ∙ decimal-digits_value own f parts.1 parts.0 plain (omega arith)

@@ -1,5 +1,5 @@
 -- A file has one answer: the definitions give no two for it. Assumes nothing.
-use Rattle.std.proofs.Common.{◌≡◌, ℕ, ◌+◌, ◌<◌, ◌≤◌, cond, eqb, ◌≢◌, ◌⊎◌, List, [], ◌∷◌, length, Ok, Err, Result, sym, refl, ap, ◌∙◌, inl, inr, arith}
+use Rattle.std.proofs.Common.{◌≡◌, ℕ, ◌+◌, ◌<◌, ◌≤◌, if◌then◌else◌, ◌==◌, ◌≢◌, ◌⊎◌, List, [], ◌∷◌, length, Ok, Err, Result, sym, refl, ap, ◌∙◌, inl, inr, arith}
 use Rattle.std.proofs.lemmas.Bool.Decides.{nat_tests}
 use Rattle.analysis.specs.Judge.{LateRow}
 use Rattle.analysis.specs.Plans.{System, FirstLate}
@@ -45,7 +45,7 @@ named_once ls m n grows (j, f, p) (k, g, q) =
     cc
 
 -- checks that say the same of two numbers, 0 of 11 and else the number, are of one number
-numbered_once : (m n : ℕ) → 5 ≤ m → 5 ≤ n → cond (eqb m 11) 0 m ≡ cond (eqb n 11) 0 n → m ≡ n
+numbered_once : (m n : ℕ) → 5 ≤ m → 5 ≤ n → (if m == 11 then 0 else m) ≡ (if n == 11 then 0 else n) → m ≡ n
 numbered_once m n h l e = grind (arith, nat_tests)
 
 -- a refusal is of a late row, or names none

@@ -1,5 +1,5 @@
 -- The rows of a file have small numbers, so their report fits. Assumes nothing.
-use Rattle.std.proofs.Common.{◌≡◌, ℕ, zero, suc, ◌+◌, ◌^◌, ◌<◌, ◌≤◌, List, [], ◌∷◌, length, get_or, Ok, sym, subst, inl, inr, arith, pow_mono}
+use Rattle.std.proofs.Common.{◌≡◌, ℕ, zero, suc, ◌+◌, ◌^◌, ◌<◌, ◌≤◌, List, [], ◌∷◌, length, slice_index_or, Ok, sym, subst, inl, inr, arith, pow_mono}
 use Rattle.analysis.specs.declared.Answer.{Answer}
 use Rattle.analysis.specs.declared.Row.{Row}
 use Rattle.analysis.specs.Judge.{Answered, InTime, no_answer, bounds_of, vectors_of}
@@ -60,7 +60,7 @@ limited_at all (c ∷ cs) h zero l = h.0
 limited_at all (c ∷ cs) h (suc k) l = limited_at all cs h.1 k (omega arith)
 
 -- the answer for a rank is small
-small_answer : (rows : List Claim) (answers : List Answer) → AllLimited rows → length rows ≤ 12 → Answered (loads (ranking rows)) answers → (k : ℕ) → k < length answers → SmallAnswer (get_or answers k no_answer)
+small_answer : (rows : List Claim) (answers : List Answer) → AllLimited rows → length rows ≤ 12 → Answered (loads (ranking rows)) answers → (k : ℕ) → k < length answers → SmallAnswer (slice_index_or answers k no_answer)
 small_answer rows answers small few answered k l =
     let ls = loads (ranking rows) in
     let within : k < length ls = (let e = answered.count in omega arith) in

@@ -1,5 +1,5 @@
 -- A row line that is refused, and one whose row is taken in. Assumes nothing.
-use Rattle.std.proofs.Common.{◌≡◌, ℕ, ◌-◌, Bool, true, cond, ◌≢◌, List, [], ◌∷◌, ◌++◌, length, Ok, sym, ap, ◌∙◌, subst, arith}
+use Rattle.std.proofs.Common.{◌≡◌, ℕ, ◌-◌, Bool, true, if◌then◌else◌, ◌≢◌, List, [], ◌∷◌, ◌++◌, length, Ok, sym, ap, ◌∙◌, subst, arith}
 use Rattle.std.proofs.lemmas.Bool.Decides.{nat_tests}
 use Rattle.analysis.specs.declared.Row.{Row}
 use Rattle.analysis.specs.declared.Task.{Task}
@@ -86,16 +86,17 @@ module _ (fs : List (List ℕ)) (row : Row) (delay : ℕ) (jobs : Jobs) (read : 
   pub delay_is : first (delayed_checks delay (jobs_demand jobs)) ≡ first (of_delay fs)
   delay_is = ap (λ (x : Row × ℕ). first (delayed_checks x.1 (jobs_demand jobs))) read ∙ ap (λ (j : Jobs). first (delayed_checks (number_in fs 7) (jobs_demand j))) named
 
-  pub task_is : (kind : Delayed Jobs) → kind.kind ≡ jobs → kind.delay ≡ delay → ◌≡◌ {A = Task (Delayed Jobs)} (record { row = row; kind = kind }) (task_of fs)
-  task_is kind k d =
+  pub task_is : (clock : Factor) (kind : Delayed Jobs) → kind.kind ≡ jobs → kind.delay ≡ delay
+      → ◌≡◌ {A = Task (Slowed (Delayed Jobs))} (record { row = row; kind = record { kind = kind; factor = clock } }) (task_of clock fs)
+  task_is clock kind k d =
       let jobs_are = k ∙ named in
       let delay_are = d ∙ ap (λ (x : Row × ℕ). x.1) read in
-      λ i. record { row = (read i).0; kind = record { kind = jobs_are i; delay = delay_are i } }
+      λ i. record { row = (read i).0; kind = record { kind = record { kind = jobs_are i; delay = delay_are i }; factor = clock } }
 
 -- a row that was held and kept is one row more, and no hold is left
 kept : (rows : List Claim) (c : Claim) → with_kept (with_row (account_with rows) c) (hold_on (account_with rows) c) ≡ account_with (c ∷ rows)
 kept rows c =
-    ap (λ b. record { number = 0; room = 12; rows = c ∷ rows; holds = cond b [] (record { table = 0; row = number_of c } ∷ []) }) (its_own (number_of c))
+    ap (λ b. record { number = 0; room = 12; rows = c ∷ rows; holds = if b then [] else (record { table = 0; row = number_of c } ∷ []) }) (its_own (number_of c))
   where
     its_own : (n : ℕ) → bears 0 n (record { table = 0; row = n }) ≡ true
     its_own n = grind (arith, nat_tests)
@@ -107,9 +108,9 @@ taken_in rows c all t p =
     record { agrees = subst (λ (a : Account). AgreesWith row_demand a t) same p.2; answered = p.1.0.1 }
 
 -- the row that is held, with the meaning of its kind
-abbrev pub held_claim : Factor → Task (Delayed Jobs) → Claim
-held_claim clock t = record { row = t.row; demand = row_demand (record { kind = t.kind; factor = clock }) }
+abbrev pub held_claim : Task (Slowed (Delayed Jobs)) → Claim
+held_claim t = record { row = t.row; demand = row_demand t.kind }
 
 -- it is that of the line
-pub same_claim : (clock : Factor) (fs : List (List ℕ)) (t : Task (Delayed Jobs)) → t ≡ task_of fs → held_claim clock t ≡ claim_in clock fs
-same_claim clock fs t e = ap (held_claim clock) e
+pub same_claim : (clock : Factor) (fs : List (List ℕ)) (t : Task (Slowed (Delayed Jobs))) → t ≡ task_of clock fs → held_claim t ≡ claim_in clock fs
+same_claim clock fs t e = ap held_claim e

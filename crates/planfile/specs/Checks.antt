@@ -186,9 +186,12 @@ row_checks fs = text_checks fs ++ blames_by_number (kind_checks (entry_of fs))
 abbrev pub line_checks : List (List ℕ) → List (Bool × Blame)
 line_checks fs = (not (is_row (word_of (field 1 fs))), by_field 17 1) ∷ row_checks fs
 
--- the row of a row line with its kind, but for the clock
-abbrev pub task_of : List (List ℕ) → Task (Delayed Jobs)
-task_of fs = record {
+-- the row that a row line or a hold line gives, its kind slowed by the clock
+abbrev pub task_of : Factor → List (List ℕ) → Task (Slowed (Delayed Jobs))
+task_of clock fs = record {
   row = row_of fs;
-  kind = record { kind = (entry_of fs).jobs; delay = (entry_of fs).delay };
+  kind = record {
+    kind = record { kind = (entry_of fs).jobs; delay = (entry_of fs).delay };
+    factor = clock;
+  };
 }

@@ -1,8 +1,8 @@
 -- Laws of plan files, in terms of their lines and of the rows that were written. Assumes nothing.
 -- How to read it: three clauses of `load` stand here, `InFileOrder`, `OneAnswer` and `RoundTrip`, each behind what it is made of. `text` is a file,
 -- `before` and `after` are the memory of the report, r is the answer.
-use Rattle.std.specs.Prelude.{◌≡◌, ℕ, ◌+◌, ◌<◌, ◌≤◌, ◌≢◌, ◌⊎◌, List, [], ◌∷◌, ◌++◌, length, take, drop, fold, Ok, Err, codes, Result, MatchResult, slice_index_or}
-use Rattle.std.specs.List.{AllByRecursion, flat_map}
+use Rattle.std.specs.Prelude.{◌≡◌, ℕ, ◌+◌, ◌<◌, ◌≤◌, ◌≢◌, ◌⊎◌, List, [], ◌∷◌, ◌++◌, length, take, drop, fold, All, Ok, Err, codes, Result, MatchResult, slice_index_or}
+use Rattle.std.specs.List.{flat_map}
 use Rattle.analysis.specs.declared.TheConstants.{LOCKS}
 use Rattle.analysis.specs.declared.Answer.{Answer}
 use Rattle.analysis.specs.Judge.{InTime}
@@ -129,7 +129,7 @@ plan_text clock es = clock_text clock ++ rows_text es
 
 -- each number fits a field
 abbrev pub AllFit : List ℕ → Type 0
-AllFit = AllByRecursion (λ n. n ≤ largest_number)
+AllFit = All (λ n. n ≤ largest_number)
 
 -- an entry can be written: its numbers fit their fields, and it has a section length for each lock
 pub record Writable (e : Entry) : Type 0 where

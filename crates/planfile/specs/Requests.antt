@@ -4,10 +4,7 @@
 use Rattle.std.specs.Prelude.{◌≡◌, ℕ, Bool, true, false, not, ◌&&◌, List, [], ◌∷◌, ◌++◌, length, Some, None, Option, Ok, Err, Result, if◌then◌else◌, codes, ◌==◌, nat_le}
 use Rattle.std.specs.Cmp.Lexicographic.{pointwise}
 use Rattle.analysis.specs.declared.TheConstants.{MOST_ROWS}
-use Rattle.analysis.specs.declared.Task.{Task}
-use Rattle.demand.specs.declared.delayed.Delayed.{Delayed}
 use Rattle.demand.specs.declared.factor.Factor.{Factor}
-use Rattle.demand.specs.declared.slowed.Slowed.{Slowed}
 use Rattle.runs.specs.declared.call.HoldId.{HoldId}
 use Rattle.runs.specs.declared.call.Call.TheVariants.{Hold as HoldCall, Keep as KeepCall, Release as ReleaseCall, Withdraw as WithdrawCall, Bound as BoundCall}
 use Rattle.planfile.specs.declared.TheConstants.{LONGEST_LINE}
@@ -18,7 +15,7 @@ use Rattle.planfile.specs.declared.request.Request.{Request}
 use Rattle.planfile.specs.declared.request.Request.TheVariants.{Table as TableAsked, Call as CallAsked, Rows as RowsAsked}
 use Rattle.planfile.specs.declared.word.Verb.{Verb}
 use Rattle.planfile.specs.declared.word.Verb.TheVariants.{Table, Hold, Keep, Release, Withdraw, Bound, Rows, Other}
-use Rattle.planfile.specs.Checks.{Jobs, clock_checks, length_checks, number_checks, number_in, row_checks, task_of}
+use Rattle.planfile.specs.Checks.{clock_checks, length_checks, number_checks, number_in, row_checks, task_of}
 use Rattle.planfile.specs.Fault.{nothing, by_number, by_field, first_blame, line_blame}
 use Rattle.planfile.specs.Reading.{first_fields}
 use Rattle.planfile.specs.Text.{field, is_number}
@@ -102,13 +99,6 @@ request_checks text = end_checks text ++ verb_checks (verb_in text) (first_field
 abbrev pub opening_of : List (List ℕ) → Opening
 opening_of fs = record { number = number_in fs 2; places = number_in fs 3 }
 
--- the row that a hold line asks for, its kind slowed by the clock
-abbrev pub task_in : Factor → List (List ℕ) → Task (Slowed (Delayed Jobs))
-task_in clock fs = record {
-  row = (task_of fs).row;
-  kind = record { kind = (task_of fs).kind; factor = clock };
-}
-
 -- the hold of this table that a line names
 abbrev pub hold_in : ℕ → List (List ℕ) → HoldId
 hold_in table fs = record { table = table; row = number_in fs 2 }
@@ -116,7 +106,7 @@ hold_in table fs = record { table = table; row = number_in fs 2 }
 -- what a line asks of this table, by its first word; no other word asks anything
 abbrev pub asked_by : Factor → ℕ → List (List ℕ) → Verb → Option Request
 asked_by clock table fs Table = Some TableAsked
-asked_by clock table fs Hold = Some (CallAsked (HoldCall (task_in clock fs)))
+asked_by clock table fs Hold = Some (CallAsked (HoldCall (task_of clock fs)))
 asked_by clock table fs Keep = Some (CallAsked (KeepCall (hold_in table fs)))
 asked_by clock table fs Release = Some (CallAsked (ReleaseCall (hold_in table fs)))
 asked_by clock table fs Withdraw = Some (CallAsked (WithdrawCall (number_in fs 2)))

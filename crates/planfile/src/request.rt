@@ -1,16 +1,16 @@
 // The lines of a log of calls: from their bytes to what each asks.
 ghost use Rattle.std.specs.Prelude.{◌≤◌, IfOk};
-ghost use Rattle.planfile.specs.Checks.{clock_of, number_in, row_checks, Reads};
+ghost use Rattle.planfile.specs.Checks.{clock_of, number_in, Reads};
 ghost use Rattle.planfile.specs.Cut.{Keeps};
 ghost use Rattle.planfile.specs.Reading.{first_fields};
-ghost use Rattle.planfile.specs.Requests.{clock_line_checks, count_checks, end_checks, limit_checks, opening_checks, opening_of, RequestRead, single_checks, table_checks, task_in};
+ghost use Rattle.planfile.specs.Requests.{clock_line_checks, count_checks, end_checks, limit_checks, opening_checks, opening_of, RequestRead, hold_in, single_checks, table_checks};
 
 use super::reader::{Line, Reader};
 use super::row::{RowKind, number_at, read_clock, read_row};
 use super::word::{Verb, read_verb};
 use super::{LONGEST_LINE, LineFault};
-use analysis::{MOST_ROWS, Task};
-use demand::{Factor, Slowed};
+use analysis::MOST_ROWS;
+use demand::Factor;
 use runs::{Call, HoldId};
 
 /// The table that a table line asks for.
@@ -94,16 +94,12 @@ fn read_table(line: &Line) -> Result<Opening, LineFault>
     Ok(Opening { number, places })
 }
 
-// The row of a hold line.
-fn read_task(line: &Line, clock: Factor) -> Result<Task<RowKind>, LineFault>
-    ensures { Reads (row_checks line.now) (task_in clock line.now) result }
+// The hold of this table that a line names.
+fn read_hold(line: &Line, table: u8) -> Result<HoldId, LineFault>
+    ensures { Reads (single_checks line.now) (hold_in table line.now) result }
 {
-    let Task { row, kind } = read_row(line)?;
-    let kind = Slowed {
-        kind,
-        factor: clock,
-    };
-    Ok(Task { row, kind })
+    let row = read_number_behind(line)?;
+    Ok(HoldId { table, row })
 }
 
 /// Reads a line that has to be a table line, with its newline; what follows the newline is not looked at. An `Err` is the first
@@ -142,15 +138,9 @@ pub fn read_request(text: &[u8], clock: Factor, table: u8) -> Result<Request, Li
             check_count(&line, 1)?;
             return Ok(Request::Rows);
         }
-        Verb::Hold => Call::Hold(read_task(&line, clock)?),
-        Verb::Keep => Call::Keep(HoldId {
-            table,
-            row: read_number_behind(&line)?,
-        }),
-        Verb::Release => Call::Release(HoldId {
-            table,
-            row: read_number_behind(&line)?,
-        }),
+        Verb::Hold => Call::Hold(read_row(&line, clock)?),
+        Verb::Keep => Call::Keep(read_hold(&line, table)?),
+        Verb::Release => Call::Release(read_hold(&line, table)?),
         Verb::Withdraw => Call::Withdraw(read_number_behind(&line)?),
         Verb::Bound => Call::Bound(read_number_behind(&line)?),
         Verb::Other => return Err(LineFault::Word(1)),

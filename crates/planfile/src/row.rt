@@ -112,25 +112,29 @@ fn read_jobs(line: &Line, kind: Word) -> Result<Jobs, LineFault>
     }
 }
 
-// What stands behind the first word of a row line: the row, with its kind but for the clock.
-pub(crate) fn read_row(line: &Line) -> Result<Task<Delayed<Jobs>>, LineFault>
-    ensures { Reads (row_checks line.now) (task_of line.now) result }
+// What stands behind the first word of a row line: the row, with its kind, which the clock slows.
+pub(crate) fn read_row(line: &Line, clock: Factor) -> Result<Task<RowKind>, LineFault>
+    ensures { Reads (row_checks line.now) (task_of clock line.now) result }
 {
     let word = check_shape(line)?;
     let (row, delay) = read_plain(line)?;
     let jobs = read_jobs(line, word)?;
     let kind = Delayed::new(jobs, delay)?;
+    let kind = Slowed {
+        kind,
+        factor: clock,
+    };
     Ok(Task { row, kind })
 }
 
-// The row of a row line, with its kind but for the clock.
-fn read_row_line(line: &Line) -> Result<Task<Delayed<Jobs>>, LineFault>
-    ensures { Reads (line_checks line.now) (task_of line.now) result }
+// The row of a row line, with its kind, which the clock slows.
+fn read_row_line(line: &Line, clock: Factor) -> Result<Task<RowKind>, LineFault>
+    ensures { Reads (line_checks line.now) (task_of clock line.now) result }
 {
     let Word::Row = read_word(line.first()) else {
         return Err(LineFault::Word(1));
     };
-    read_row(line)
+    read_row(line, clock)
 }
 
 // Takes in the row of a row line. The answers are those of all rows in the table then.
@@ -142,10 +146,6 @@ pub(crate) fn take_row(
     ensures { (rows : List Claim) → AgreesWith row_demand (account_with rows) register.old.table
         → RowRead clock rows line.now result register.new.table }
 {
-    let Task { row, kind } = read_row_line(line)?;
-    let kind = Slowed {
-        kind,
-        factor: clock,
-    };
+    let Task { row, kind } = read_row_line(line, clock)?;
     Ok(register.take_in(row, kind)?)
 }

@@ -1,5 +1,5 @@
 -- The first line is the clock line, and each turn of the loop takes the next row line.
-use Rattle.std.proofs.Common.{◌≡◌, ◌+◌, ◌<◌, [], ◌∷◌, map, length, get_or, Ok, Err, sym, ap, ◌∙◌, subst, inl, arith, rules}
+use Rattle.std.proofs.Common.{◌≡◌, ◌+◌, ◌<◌, [], ◌∷◌, map, length, slice_index_or, Ok, Err, sym, ap, ◌∙◌, subst, inl, arith, rules}
 use Rattle.std.proofs.lemmas.Result.{err_from_is_err_and, MatchResult-at_ok, MatchResult-at_err}
 use Rattle.std.proofs.lemmas.Iterator.Consumers.{YieldsList-turn, YieldsList-end}
 use Rattle.std.proofs.lemmas.List.{length-map, length_push}
@@ -33,7 +33,7 @@ loop-index-init c =
     ([], record { agrees = c.requires.empty; answered = c.answers-answers.ensures.account (account_with []) c.requires.empty }, λ r more. clock_taken c.args.file.now c.in_ok-clock.clock r read.0 read.1 more)
 
 -- the row line at hand
-here : (c : In-Some) → (length c.loop-index.yielded < length (row_lines c.args.file.now)) × (c.in-Some.index ≡ length c.loop-index.yielded) × (c.in-Some.line ≡ fields (get_or (row_lines c.args.file.now) (length c.loop-index.yielded) []))
+here : (c : In-Some) → (length c.loop-index.yielded < length (row_lines c.args.file.now)) × (c.in-Some.index ≡ length c.loop-index.yielded) × (c.in-Some.line ≡ fields (slice_index_or (row_lines c.args.file.now) (length c.loop-index.yielded) []))
 here c =
     let from = c.enumerate-index-items.ensures in
     let road = row_road c.args.file.now c.new-reader.result c.next.new.self _ _ c.new-reader.ensures c.next.ensures.steps c.unwrap-first.ensures _ _ from.source from.count c.into_iter-index-iterator.ensures.into_iter_gives in

@@ -1,5 +1,5 @@
 -- The word that names the kind says how many numbers there are.
-use Rattle.std.proofs.Common.{◌≡◌, ℕ, ◌-◌, ◌<◌, Bool, List, length, get_or, sym, refl, ap, ◌∙◌, arith}
+use Rattle.std.proofs.Common.{◌≡◌, ℕ, ◌-◌, ◌<◌, Bool, List, length, slice_index_or, sym, refl, ap, ◌∙◌, arith}
 use Rattle.std.proofs.lemmas.Result.{err_from_is_err_and}
 use Rattle.demand.specs.Refusals.{first, every_checks, heavy_checks}
 use Rattle.planfile.specs.declared.word.Word.{Word}
@@ -19,10 +19,10 @@ every_named Other named other = absurd (omega arith)
 
 -- the checks of jobs of one length, and of a heavy job, by their numbers
 every_by : List ℕ → List (Bool × ℕ)
-every_by ns = every_checks (get_or ns 0 0) (get_or ns 1 0)
+every_by ns = every_checks (slice_index_or ns 0 0) (slice_index_or ns 1 0)
 
 heavy_by : List ℕ → List (Bool × ℕ)
-heavy_by ns = heavy_checks (get_or ns 0 0) (get_or ns 1 0) (get_or ns 2 0) (get_or ns 3 0)
+heavy_by ns = heavy_checks (slice_index_or ns 0 0) (slice_index_or ns 1 0) (slice_index_or ns 2 0) (slice_index_or ns 3 0)
 
 pub returns-in_err-job-in-Heavy : goal.returns-in_err-job-in-Heavy
 returns-in_err-job-in-Heavy c =

@@ -19,7 +19,7 @@ returns-in_err-take_in c rows agrees =
 pub returns : goal.returns
 returns c rows agrees =
     let task = c.in_ok-row.ensures in
-    let claim = held_claim c.args.clock c.in_ok-row.field-0 in
+    let claim = held_claim c.in_ok-row.field-0 in
     let same = same_claim c.args.clock c.args.line.now c.in_ok-row.field-0 task.1 in
     let taken = c.in_ok-take_in.ensures.account (account_with rows) agrees in (
       record { passes = task.0; token = hold_on (account_with rows) claim; accepted = subst (λ (x : Claim). Accepted (account_with rows) x (hold_on (account_with rows) claim)) same taken.1.0.0 },
