@@ -23,14 +23,14 @@ use Rattle.planfile.specs.Text.{lines, fields}
 use Rattle.planfile.proofs.Parted.{few_lines}
 
 -- the first of some lines, and the others
-first_of : (ls : List (List ℕ)) (line : List (List ℕ)) (rest : List (List (List ℕ))) → map fields ls ≡ line ∷ rest → (line ≡ fields (slice_index_or ls 0 [])) × (rest ≡ map fields (drop 1 ls))
-first_of [] line rest e = absurd (cc)
-first_of (l ∷ ls) line rest e = (cc, cc)
+first_and_rest : (ls : List (List ℕ)) (line : List (List ℕ)) (rest : List (List (List ℕ))) → map fields ls ≡ line ∷ rest → (line ≡ fields (slice_index_or ls 0 [])) × (rest ≡ map fields (drop 1 ls))
+first_and_rest [] line rest e = absurd (cc)
+first_and_rest (l ∷ ls) line rest e = (cc, cc)
 
 -- a reader gives the clock line, and the row lines are left
 pub first_line : (file : List ℕ) (r s : Reader) (o : Option (List (List ℕ))) (line : List (List ℕ)) → r.text.now ≡ file → YieldsFirst lines_left r o s → o ≡ Some line → (line ≡ first_fields file) × (lines_left s ≡ map fields (row_lines file))
 first_line file r s o line text step is =
-    first_of (lines file) line (lines_left s) (ap (λ t. map fields (lines t)) (sym text) ∙ rw is at step)
+    first_and_rest (lines file) line (lines_left s) (ap (λ t. map fields (lines t)) (sym text) ∙ rw is at step)
 
 -- where lines are left, the reader gives one
 pub some_first : {S A : Type 0} (left : S → List A) (s t : S) (r : Option A) → YieldsFirst left s r t → 0 < length (left s) → IsSome r

@@ -21,6 +21,7 @@ use Rattle.planfile.specs.Checks.{clock_checks, entry_of}
 use Rattle.planfile.specs.Reading.{account_with, claim_in, first_fields, file_checks, RowTaken, RowRefused, RowsRead, FileRead}
 use Rattle.planfile.specs.Loading.{Loaded}
 use Rattle.planfile.specs.Laws.{row_lines, factor_of, OneAnswer}
+use Rattle.planfile.proofs.Blames.{something}
 use Rattle.planfile.proofs.FileOrder.{rows_are}
 use Rattle.planfile.proofs.RowsAccepted.{claim_lawful, not_refused}
 
@@ -75,7 +76,7 @@ refused_once rows c lawful d e p q =
 
 -- a check that applies has a number
 not_nothing : (a b : Blame) → a ≡ b → b.number ≢ 0 → a ≡ nothing → ⊥
-not_nothing a b e some none = some (ap (λ (x : Blame). x.number) (sym e ∙ none))
+not_nothing a b e some none = something b some (sym e ∙ none)
 
 module _ (clock : Factor) (rows : List Claim) (fs : List (List ℕ)) (lawful : LawfulRows rows) where
   -- the kind of a row line is lawful too

@@ -14,6 +14,7 @@ use Rattle.planfile.specs.Checks.{Entry, clock_checks, clock_of, line_checks, cl
 use Rattle.planfile.specs.Reading.{account_with, first_fields, file_checks, RowRefused, RowsRead, FileRead}
 use Rattle.planfile.specs.Loading.{Loaded}
 use Rattle.planfile.specs.Laws.{plan_text, claims_onto, NumbersPass, SoundPlan, RoundTrip}
+use Rattle.planfile.proofs.Blames.{something}
 use Rattle.planfile.proofs.FileOrder.{not_both, same_ok}
 use Rattle.planfile.proofs.Joined.{Parts, WholeLines, with_newlines, line_lacks, line_short, lines_are, lines_ended}
 use Rattle.planfile.proofs.RowsAccepted.{SoundBehind, sound_more, few_entries, entry_not_refused}
@@ -22,7 +23,7 @@ use Rattle.planfile.proofs.WrittenPass.{entry_is, row_passes, clock_parts_are, c
 
 -- nothing has no number
 no_blame : (a b : Blame) → a ≡ nothing → a ≡ b → b.number ≢ 0 → ⊥
-no_blame a b p q ne = ne (ap (λ (c : Blame). c.number) (sym q ∙ p))
+no_blame a b p q ne = something b ne (sym q ∙ p)
 
 module _ (clock : Factor) where
   -- a written row line is not refused

@@ -18,7 +18,7 @@ use Rattle.planfile.specs.Fault.{nothing, by_number, first_blame}
 use Rattle.planfile.specs.Checks.{Jobs, row_of, task_of, shape_checks, number_checks, number_in, row_checks, blames_by_number, jobs_checks, jobs_demand, entry_of, row_demand}
 use Rattle.planfile.specs.Reading.{account_with, claim_in, RowsKept}
 use Rattle.std.proofs.lemmas.List.{map-append, append_assoc}
-use Rattle.planfile.proofs.Blames.{Numbered, passed, stopped, numbered_append, numbered_shape, numbered_numbers, numbered_jobs, first_of_none}
+use Rattle.planfile.proofs.Blames.{Numbered, passed, stopped, numbered_append, numbered_shape, numbered_numbers, numbered_jobs, first_blame-blames_by_number}
 
 -- lists of checks in a row: what the first list does not decide, the next does
 module _ (w n m : List (Bool × Blame)) (j d : List (Bool × ℕ)) where
@@ -50,7 +50,7 @@ module _ (w n m : List (Bool × Blame)) (j d : List (Bool × ℕ)) where
 
       fourth_list : (k : ℕ) → Numbered jobs → first_blame jobs ≡ nothing → k ≡ first d → first_blame all_checks ≡ by_number k
       fourth_list k numbered_j e is =
-          past_second ∙ (passed jobs (blames_by_number d) numbered_j e ∙ (first_of_none d ∙ ap by_number (sym is)))
+          past_second ∙ (passed jobs (blames_by_number d) numbered_j e ∙ (first_blame-blames_by_number d ∙ ap by_number (sym is)))
 
 module _ (fs : List (List ℕ)) where
   abbrev numbers_of_jobs : List (Bool × Blame)

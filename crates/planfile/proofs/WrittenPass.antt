@@ -1,7 +1,7 @@
 -- The lines of a written plan file pass their checks, and say what was written. Assumes nothing.
 use Rattle.std.proofs.Common.{◌≡◌, ℕ, zero, suc, ◌+◌, ◌-◌, ◌≤◌, not, List, [], ◌∷◌, ◌++◌, map, length, slice_index_or, drop, codes, decimal, refl, ap, ◌∙◌, subst, arith}
 use Rattle.demand.specs.Refusals.{first, slowed_checks}
-use Rattle.planfile.proofs.Blames.{NoneApply, none_front, none_append, first_of_none}
+use Rattle.planfile.proofs.Blames.{NoneApply, none_front, none_append, first_blame-blames_by_number}
 use Rattle.demand.specs.declared.factor.Factor.{Factor}
 use Rattle.either.specs.declared.Either.TheVariants.{Left, Right}
 use Rattle.planfile.specs.Fault.{nothing, first_blame, by_number}
@@ -46,7 +46,7 @@ module _ (clock : Factor) (numerator : clock.numerator ≤ 4_294_967_295) (denom
       ∙ none_front (number_checks (clock_written clock) 2 2) (blames_by_number (slowed_checks (value (decimal clock.numerator)) (value (decimal clock.denominator))))
       (numbers_pass (clock_written clock) 2 (clock.numerator ∷ clock.denominator ∷ []) (refl, (refl, tt)) (numerator, (denominator, tt)))
       ∙ ap (λ (c : Factor). first_blame (blames_by_number (slowed_checks c.numerator c.denominator))) clock_says
-      ∙ (first_of_none (slowed_checks clock.numerator clock.denominator) ∙ ap by_number z)
+      ∙ (first_blame-blames_by_number (slowed_checks clock.numerator clock.denominator) ∙ ap by_number z)
 
 -- the first n of a list, 0 where there are fewer
 abbrev firsts : ℕ → List ℕ → List ℕ
@@ -149,4 +149,4 @@ module _ (e : Entry) (w : Writable e) where
       ap (λ (fs : List (List ℕ)). first_blame (line_checks fs)) row_fields_are
       ∙ none_front (text_checks (row_written e)) (blames_by_number (kind_checks (entry_of (row_written e)))) said.0
       ∙ ap (λ (f : Entry). first_blame (blames_by_number (kind_checks f))) said.1
-      ∙ (first_of_none (kind_checks e) ∙ ap by_number z)
+      ∙ (first_blame-blames_by_number (kind_checks e) ∙ ap by_number z)

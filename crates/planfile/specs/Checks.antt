@@ -2,6 +2,7 @@
 -- How to read it: fs is a line, as the list of its fields, which count from 1. A check is a pair, whether it applies and what it blames; checks
 -- stand in lists, and the first that applies counts. For a clock line see `clock_checks` and `clock_of`, for a row line `line_checks` and `task_of`.
 use Rattle.std.specs.Prelude.{◌≡◌, ℕ, zero, suc, ◌+◌, ◌-◌, Bool, true, false, not, ◌||◌, List, [], ◌∷◌, ◌++◌, map, length, Ok, Err, Result, ◌==◌, nat_lt}
+use Rattle.analysis.specs.declared.TheConstants.{LOCKS}
 use Rattle.analysis.specs.declared.Row.{Row}
 use Rattle.analysis.specs.declared.Task.{Task}
 use Rattle.analysis.specs.Ranks.{Claim}
@@ -115,7 +116,7 @@ row_of fs = record {
   suspension = number_in fs 4;
   suspensions = number_in fs 5;
   deadline = number_in fs 6;
-  sections = numbers_in fs 8 8;
+  sections = numbers_in fs 8 LOCKS;
 }
 
 -- what a row line has: a row, how late its jobs may come, and its jobs

@@ -46,20 +46,20 @@ pub record RowTaken (clock : Factor) (rows : List Claim) (fs : List (List ℕ)) 
   pub accepted : Accepted (account_with rows) (claim_in clock fs) token
 
 -- The account refuses the row of a row line, and this is what is blamed.
-abbrev pub NotHeld : Factor → List Claim → List (List ℕ) → Blame → Type 0
-NotHeld clock rows fs b =
+abbrev pub AccountRefuses : Factor → List Claim → List (List ℕ) → Blame → Type 0
+AccountRefuses clock rows fs b =
     (e : HoldRefusal) × Refused (account_with rows) (claim_in clock fs) e × (b ≡ line_blame (Hold e))
 
 -- A row line is refused: by the first of its own checks that applies, or, where none does, as the account refuses its row.
 abbrev pub RowRefused : Factor → List Claim → List (List ℕ) → Blame → Type 0
 RowRefused clock rows fs b =
     ((first_blame (line_checks fs) ≡ b) × (b.number ≢ 0))
-    ⊎ ((first_blame (line_checks fs) ≡ nothing) × NotHeld clock rows fs b)
+    ⊎ ((first_blame (line_checks fs) ≡ nothing) × AccountRefuses clock rows fs b)
 
 -- What reading a row line answers where the table has these rows, and the table then: it is taken, and the answers are those of all rows, or it
 -- is refused.
-abbrev pub RowRead : Factor → List Claim → List (List ℕ) → Result Answers LineFault → PlanTable → Type 0
-RowRead clock rows fs r t =
+abbrev pub RowLineAnswered : Factor → List Claim → List (List ℕ) → Result Answers LineFault → PlanTable → Type 0
+RowLineAnswered clock rows fs r t =
     MatchResult r
     (λ all. RowTaken clock rows fs × RowsKept (claim_in clock fs ∷ rows) t all)
     (λ f. RowRefused clock rows fs (line_blame f))

@@ -46,7 +46,8 @@ pub const REPORT_MEMORY: usize = 512;
 /// its rows. The answer is always `true`, and no more is computed: the figures are the contract.
 #[tactic(auto, using(crate::proofs::WorkedFigures::worked_figures))]
 pub fn worked_figures_hold() -> bool
-    ensures { (result ≡ true) × (WorkedFigures) }
+    ensures always { result ≡ true }
+    ensures figures { WorkedFigures }
 {
     true
 }

@@ -23,7 +23,7 @@ pub struct Opening {
 }
 
 /// What a line of an evening asks. An evening is what a log has from one table line to the next.
-#[derive(Drop)]
+#[derive(Debug, PartialEq, Eq, Drop)]
 pub enum Request {
     /// The evening is over: the line begins with the word of a table line, and [`read_opening`] reads what else it says.
     Table,

@@ -4,14 +4,14 @@ ghost use Rattle.analysis.specs.Ranks.{Claim};
 ghost use Rattle.table.specs.Agreement.{AgreesWith};
 ghost use Rattle.planfile.specs.Text.{field, word_of};
 ghost use Rattle.planfile.specs.Checks.{clock_checks, clock_of, shape_checks, number_checks, number_in, numbers_in, fields_due, row_of, jobs_in, behind_word_checks, line_checks, row_checks, task_of, row_demand, Reads};
-ghost use Rattle.planfile.specs.Reading.{account_with, RowRead};
+ghost use Rattle.planfile.specs.Reading.{account_with, RowLineAnswered};
 ghost use Rattle.planfile.specs.Cut.{Keeps};
 
 use super::LineFault;
 use super::number::read_number;
 use super::reader::Line;
 use super::word::{Word, read_word};
-use analysis::{Answers, Row, Task};
+use analysis::{Answers, LOCKS, Row, Task};
 use demand::{Delayed, Either, Every, Factor, Heavy, Left, Right, Slowed};
 use runs::Register;
 
@@ -81,7 +81,7 @@ fn read_plain(line: &Line) -> Result<(Row, u32), LineFault>
     ensures { Reads (number_checks line.now 2 14) (row_of line.now, number_in line.now 7) result }
 {
     let [number, priority, suspension, suspensions, deadline, delay] = read_numbers::<6>(line, 2)?;
-    let sections = read_numbers::<8>(line, 8)?;
+    let sections = read_numbers::<LOCKS>(line, 8)?;
     let row = Row {
         number,
         priority,
@@ -144,7 +144,7 @@ pub(crate) fn take_row(
     register: &mut Register<RowKind>,
 ) -> Result<Answers, LineFault>
     ensures { (rows : List Claim) → AgreesWith row_demand (account_with rows) register.old.table
-        → RowRead clock rows line.now result register.new.table }
+        → RowLineAnswered clock rows line.now result register.new.table }
 {
     let Task { row, kind } = read_row_line(line, clock)?;
     Ok(register.take_in(row, kind)?)

@@ -6,7 +6,7 @@ use Rattle.planfile.specs.declared.word.Word.{Word}
 use Rattle.planfile.specs.declared.word.Word.TheVariants.{Clock, Row, Every, Heavy, Other}
 use Rattle.planfile.specs.Fault.{by_number}
 use Rattle.planfile.specs.Checks.{fields_due, number_checks, numbers_in, blames_by_number, jobs_checks, jobs_in}
-use Rattle.planfile.proofs.Blames.{stopped, passed, fault_numbered, numbered_numbers, first_of_none}
+use Rattle.planfile.proofs.Blames.{stopped, passed, fault_numbered, numbered_numbers, first_blame-blames_by_number}
 use Rattle.planfile.proofs.row.read_jobs.Goals as goal
 
 -- a word that names a kind, and not that of a heavy job, is that of jobs of one length
@@ -41,7 +41,7 @@ returns-in_err-new-in-Heavy c =
     let checks = heavy_by (numbers_in fs 17 4) in
     rw (p.1, p.2, four, c.in-Heavy.is)
     (passed (number_checks fs 17 4) (blames_by_number checks) (numbered_numbers fs 17 4) numbers.0
-    ∙ (first_of_none checks ∙ ap by_number (sym (c.in_err-new-in-Heavy.ensures.refusal ∙ ap (λ ns. first (heavy_by ns)) numbers.1))))
+    ∙ (first_blame-blames_by_number checks ∙ ap by_number (sym (c.in_err-new-in-Heavy.ensures.refusal ∙ ap (λ ns. first (heavy_by ns)) numbers.1))))
 
 pub returns-in_err-job-in_default : goal.returns-in_err-job-in_default
 returns-in_err-job-in_default c =
@@ -62,4 +62,4 @@ returns-in_err-new-in_default c =
     let checks = every_by (numbers_in fs 17 2) in
     rw (p.1, p.2, two, word)
     (passed (number_checks fs 17 2) (blames_by_number checks) (numbered_numbers fs 17 2) numbers.0
-    ∙ (first_of_none checks ∙ ap by_number (sym (c.in_err-new-in_default.ensures.refusal ∙ ap (λ ns. first (every_by ns)) numbers.1))))
+    ∙ (first_blame-blames_by_number checks ∙ ap by_number (sym (c.in_err-new-in_default.ensures.refusal ∙ ap (λ ns. first (every_by ns)) numbers.1))))
