@@ -1,10 +1,12 @@
 -- The first check of a list that applies, over lists in a row. Assumes nothing.
 use Rattle.std.proofs.Common.{◌≡◌, ℕ, zero, suc, ◌+◌, ◌-◌, ◌<◌, ◌≤◌, Bool, true, false, not, ◌≢◌, List, [], ◌∷◌, ◌++◌, length, sym, refl, ap, ◌∙◌, add-zero, zero-add, arith, ltb-false, eqb-true}
 use borrow.Author.Tests.{eqb-false, not-false}
+use Rattle.std.specs.List.{AllByRecursion}
 use Rattle.std.proofs.lemmas.Bool.{cond-false}
 use Rattle.demand.specs.declared.KindRefusal.{KindRefusal}
 use Rattle.demand.specs.declared.KindRefusal.TheVariants.{Job, Period, Delay, Speed}
 use Rattle.demand.specs.Refusals.{first, refusal_number}
+use Rattle.demand.proofs.FirstOf.{EachSays, first_of-map, first_of-front, first_of-behind}
 use Rattle.table.specs.declared.refusals.HoldRefusal.{HoldRefusal}
 use Rattle.table.specs.declared.refusals.HoldRefusal.TheVariants.{Number as OfNumber, Priority, Suspension, Deadline, Section, NoPlace, Late}
 use Rattle.table.specs.Account.{hold_number}
@@ -13,33 +15,35 @@ use Rattle.planfile.specs.declared.fault.LineFault.TheVariants.{Word as OfWord, 
 use Rattle.planfile.specs.declared.fault.Fault.{Fault}
 use Rattle.planfile.specs.declared.fault.Fault.TheVariants.{ReportMemory, File, Line}
 use Rattle.planfile.specs.declared.fault.Blame.{Blame}
-use Rattle.planfile.specs.Fault.{nothing, by, by_field, first_blame, line_blame, blame}
+use Rattle.planfile.specs.Fault.{nothing, by_number, by_field, first_blame, line_blame, blame}
 use Rattle.either.specs.declared.Either.TheVariants.{Left, Right}
 use Rattle.planfile.specs.declared.word.Word.{Word}
-use Rattle.planfile.specs.Checks.{Jobs, fields_due, number_checks, shape_checks, blaming_none, numbers_in, number_in, jobs_checks}
+use Rattle.planfile.specs.Checks.{Jobs, fields_due, number_checks, shape_checks, blames_by_number, numbers_in, number_in, jobs_checks}
 use Rattle.planfile.specs.Reading.{file_checks}
 use Rattle.planfile.specs.Requests.{end_checks}
 use Rattle.planfile.specs.Text.{is_number, field, word_of}
 
--- each check has a number
+-- each check blames something
 abbrev pub Numbered : List (Bool × Blame) → Type 0
-Numbered [] = Unit {0}
-Numbered (check ∷ checks) = (check.1.number ≢ 0) × Numbered checks
+Numbered = EachSays nothing
 
 nonzero : (m n : ℕ) → m ≡ suc n → m ≢ 0
 nonzero m n e z = omega arith
 
+-- what has a number is something
+pub something : (b : Blame) → b.number ≢ 0 → b ≢ nothing
+something b some e = some (ap (λ (x : Blame). x.number) e)
+
+by_its_number : (b : Blame) (n : ℕ) → b.number ≡ suc n → b ≢ nothing
+by_its_number b n e = something b (nonzero b.number n e)
+
 -- where none of the first applies, the others decide
 pub passed : (xs ys : List (Bool × Blame)) → Numbered xs → first_blame xs ≡ nothing → first_blame (xs ++ ys) ≡ first_blame ys
-passed [] ys all e = refl
-passed ((true, b) ∷ xs) ys all e = absurd (all.0 (ap (λ (x : Blame). x.number) e))
-passed ((false, b) ∷ xs) ys all e = passed xs ys all.1 e
+passed = first_of-behind nothing
 
 -- where one of the first applies, the others do not matter
 pub stopped : (xs ys : List (Bool × Blame)) (b : Blame) → b.number ≢ 0 → first_blame xs ≡ b → first_blame (xs ++ ys) ≡ b
-stopped [] ys b some e = absurd (some (sym (ap (λ (x : Blame). x.number) e)))
-stopped ((true, a) ∷ xs) ys b some e = e
-stopped ((false, a) ∷ xs) ys b some e = stopped xs ys b some e
+stopped xs ys b some = first_of-front nothing xs ys b (something b some)
 
 pub numbered_append : (xs ys : List (Bool × Blame)) → Numbered xs → Numbered ys → Numbered (xs ++ ys)
 numbered_append [] ys p q = q
@@ -47,16 +51,16 @@ numbered_append (x ∷ xs) ys p q = (p.0, numbered_append xs ys p.1 q)
 
 pub numbered_numbers : (fs : List (List ℕ)) (k n : ℕ) → Numbered (number_checks fs k n)
 numbered_numbers fs k zero = tt
-numbered_numbers fs k (suc n) = (nonzero 16 15 refl, numbered_numbers fs (k + 1) n)
+numbered_numbers fs k (suc n) = (by_its_number _ 15 refl, numbered_numbers fs (k + 1) n)
 
 pub numbered_shape : (fs : List (List ℕ)) → Numbered (shape_checks fs)
-numbered_shape fs = (nonzero 15 14 refl, (nonzero 17 16 refl, (nonzero 15 14 refl, tt)))
+numbered_shape fs = (by_its_number _ 14 refl, (by_its_number _ 16 refl, (by_its_number _ 14 refl, tt)))
 
 pub numbered_file : (text : List ℕ) (room : ℕ) → Numbered (file_checks text room)
-numbered_file text room = (nonzero 19 18 refl, (nonzero 18 17 refl, tt))
+numbered_file text room = (by_its_number _ 18 refl, (by_its_number _ 17 refl, tt))
 
 pub numbered_end : (text : List ℕ) → Numbered (end_checks text)
-numbered_end text = (nonzero 18 17 refl, tt)
+numbered_end text = (by_its_number _ 17 refl, tt)
 
 pub kind_numbered : (e : KindRefusal) → refusal_number e ≢ 0
 kind_numbered Job = nonzero 1 0 refl
@@ -83,14 +87,12 @@ fault_numbered (Kind e) = kind_numbered e
 fault_numbered (Hold e) = hold_numbered e
 
 -- checks that blame no field are first as their numbers are
-pub first_of_none : (cs : List (Bool × ℕ)) → first_blame (blaming_none cs) ≡ by (first cs)
-first_of_none [] = refl
-first_of_none ((true, n) ∷ cs) = refl
-first_of_none ((false, n) ∷ cs) = first_of_none cs
+pub first_blame-blames_by_number : (cs : List (Bool × ℕ)) → first_blame (blames_by_number cs) ≡ by_number (first cs)
+first_blame-blames_by_number = first_of-map by_number 0
 
-pub numbered_jobs : (jobs : Jobs) → Numbered (blaming_none (jobs_checks jobs))
-numbered_jobs (Left k) = (kind_numbered Job, (kind_numbered Period, tt))
-numbered_jobs (Right k) = (kind_numbered Job, (kind_numbered Period, tt))
+pub numbered_jobs : (jobs : Jobs) → Numbered (blames_by_number (jobs_checks jobs))
+numbered_jobs (Left k) = (something _ (kind_numbered Job), (something _ (kind_numbered Period), tt))
+numbered_jobs (Right k) = (something _ (kind_numbered Job), (something _ (kind_numbered Period), tt))
 
 -- fields in a row are checked one after the other
 pub checks_split : (fs : List (List ℕ)) (k m n : ℕ) → number_checks fs k (m + n) ≡ number_checks fs k m ++ number_checks fs (k + m) n
@@ -122,12 +124,11 @@ one_more fs start i before here =
 
 -- no check applies
 abbrev pub NoneApply : List (Bool × Blame) → Type 0
-NoneApply [] = Unit {0}
-NoneApply (check ∷ checks) = (check.0 ≡ false) × NoneApply checks
+NoneApply = AllByRecursion (λ check. check.0 ≡ false)
 
 pub none_apply : (xs : List (Bool × Blame)) → Numbered xs → first_blame xs ≡ nothing → NoneApply xs
 none_apply [] all e = tt
-none_apply ((true, b) ∷ xs) all e = absurd (all.0 (ap (λ (x : Blame). x.number) e))
+none_apply ((true, b) ∷ xs) all e = absurd (all.0 e)
 none_apply ((false, b) ∷ xs) all e = (refl, none_apply xs all.1 e)
 
 -- then those behind decide

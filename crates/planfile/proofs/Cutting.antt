@@ -1,5 +1,5 @@
 -- What a byte does to the cut of a line.
-use Rattle.std.proofs.Common.{◌≡◌, ℕ, zero, suc, ◌+◌, ◌<◌, ◌≤◌, ◌≢◌, List, [], ◌∷◌, ◌++◌, map, length, get_or, take, drop, Bor, sym, refl, ap, ◌∙◌, subst, arith}
+use Rattle.std.proofs.Common.{◌≡◌, ℕ, zero, suc, ◌+◌, ◌<◌, ◌≤◌, ◌≢◌, List, [], ◌∷◌, ◌++◌, map, length, slice_index_or, take, drop, Bor, sym, refl, ap, ◌∙◌, subst, arith}
 use native.Mathlib.Nat.{sub_self}
 use Rattle.std.specs.List.{between}
 use Rattle.std.proofs.lemmas.List.Edits.{between_more}
@@ -21,8 +21,8 @@ module _ (kept : List (Bor (List ℕ))) (fs : List (List ℕ)) (first_twenty : m
   pub is_kept : k < length kept
   is_kept = omega (arith, length-map kept (λ (f : Bor (List ℕ)). f.now), ap length first_twenty, length-take 20 fs)
 
-  pub field_is : (d : Bor (List ℕ)) → (get_or kept k d).now ≡ get_or fs k []
-  field_is d = sym (get_or-map (λ f. f.now) kept k d [] is_kept) ∙ (ap (λ xs. get_or xs k []) first_twenty ∙ get_or-take 20 fs k [] few)
+  pub field_is : (d : Bor (List ℕ)) → (slice_index_or kept k d).now ≡ slice_index_or fs k []
+  field_is d = sym (get_or-map (λ f. f.now) kept k d [] is_kept) ∙ (ap (λ xs. slice_index_or xs k []) first_twenty ∙ get_or-take 20 fs k [] few)
 
 -- what is said of a reader in a field, at that field
 pub in_field : (text : List ℕ) (at : ℕ) (kept : List (List ℕ)) (state : State) (i start : ℕ) → state ≡ Field i start → Taking text at kept state → InField text at kept i start
@@ -37,8 +37,8 @@ module _ (text : List ℕ) (at : ℕ) (kept : List (List ℕ)) (i start : ℕ) (
 
   module _ (inside : at < length text) where
     -- the line goes on
-    line_on : get_or text at 0 ≢ newline → parted_by newline (take (at + 1) text) ≡ take (at + 1) text ∷ []
-    line_on other = rw (take_more text at 0 inside) (parted_on newline (get_or text at 0) (take at text) [] (take at text) other f.one_line)
+    line_on : slice_index_or text at 0 ≢ newline → parted_by newline (take (at + 1) text) ≡ take (at + 1) text ∷ []
+    line_on other = rw (take_more text at 0 inside) (parted_on newline (slice_index_or text at 0) (take at text) [] (take at text) other f.one_line)
 
     -- the field that ends here is behind those that ended before
     one_more : length (f.before ++ between start at text ∷ []) ≡ i + 1
@@ -49,7 +49,7 @@ module _ (text : List ℕ) (at : ℕ) (kept : List (List ℕ)) (i start : ℕ) (
         e ∙ (ap (λ k. take 20 (k ++ between start at text ∷ [])) f.first_twenty ∙ take_front 20 f.before (between start at text ∷ []))
 
     -- a byte of the field
-    pub on_other : get_or text at 0 ≢ tab → get_or text at 0 ≢ newline → InField text (at + 1) kept i start
+    pub on_other : slice_index_or text at 0 ≢ tab → slice_index_or text at 0 ≢ newline → InField text (at + 1) kept i start
     on_other no_tab no_newline =
         let begun = f.begun in
         record {
@@ -59,13 +59,13 @@ module _ (text : List ℕ) (at : ℕ) (kept : List (List ℕ)) (i start : ℕ) (
           before = f.before;
           cut =
               rw (take_more text at 0 inside, between_more text start at 0 f.begun inside)
-              (parted_on tab (get_or text at 0) (take at text) f.before (between start at text) no_tab f.cut);
+              (parted_on tab (slice_index_or text at 0) (take at text) f.before (between start at text) no_tab f.cut);
           size = f.size;
           first_twenty = f.first_twenty;
         }
 
     -- a tab ends the field
-    pub on_tab : (now : List (List ℕ)) → now ≡ take 20 (kept ++ between start at text ∷ []) → get_or text at 0 ≡ tab → InField text (at + 1) now (i + 1) (at + 1)
+    pub on_tab : (now : List (List ℕ)) → now ≡ take 20 (kept ++ between start at text ∷ []) → slice_index_or text at 0 ≡ tab → InField text (at + 1) now (i + 1) (at + 1)
     on_tab now e is_tab =
         let begun = f.begun in
         let low = f.low in
@@ -80,7 +80,7 @@ module _ (text : List ℕ) (at : ℕ) (kept : List (List ℕ)) (i start : ℕ) (
         }
 
     -- a newline ends the line
-    pub on_newline : (now : List (List ℕ)) → now ≡ take 20 (kept ++ between start at text ∷ []) → get_or text at 0 ≡ newline → Behind text at now (i + 1)
+    pub on_newline : (now : List (List ℕ)) → now ≡ take 20 (kept ++ between start at text ∷ []) → slice_index_or text at 0 ≡ newline → Behind text at now (i + 1)
     on_newline now e is_newline =
         let split : text ≡ take at text ++ newline ∷ drop (at + 1) text = sym (take-append-drop at text) ∙ (ap (λ t. take at text ++ t) (drop_more text at 0 inside) ∙ ap (λ b. take at text ++ b ∷ drop (at + 1) text) is_newline) in
         record {

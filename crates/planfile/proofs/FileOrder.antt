@@ -1,5 +1,5 @@
 -- A file is read in its order: all row lines are taken, or the first fault is answered. Assumes nothing.
-use Rattle.std.proofs.Common.{◌≡◌, ℕ, zero, suc, ◌+◌, ◌<◌, ◌≢◌, List, [], ◌∷◌, length, get_or, take, Ok, Err, Result, sym, ap, ◌∙◌, subst, inl, inr, not-suc-le-zero, zero-add, arith}
+use Rattle.std.proofs.Common.{◌≡◌, ℕ, zero, suc, ◌+◌, ◌<◌, ◌≢◌, List, [], ◌∷◌, length, slice_index_or, take, Ok, Err, Result, sym, ap, ◌∙◌, subst, inl, inr, not-suc-le-zero, zero-add, arith}
 use Rattle.analysis.specs.Judge.{InTime}
 use Rattle.analysis.specs.Ranks.{Claim}
 use Rattle.demand.specs.declared.factor.Factor.{Factor}
@@ -24,7 +24,7 @@ same_err x y p = cc
 
 -- each of the first n lines is taken, among the rows of those before it
 abbrev TakenBefore : Factor → List Claim → List (List ℕ) → ℕ → Type 0
-TakenBefore clock rows ls n = (j : ℕ) → j < n → RowTaken clock (rows_onto clock rows (take j ls)) (fields (get_or ls j []))
+TakenBefore clock rows ls n = (j : ℕ) → j < n → RowTaken clock (rows_onto clock rows (take j ls)) (fields (slice_index_or ls j []))
 
 taken_more : (clock : Factor) (rows : List Claim) (line : List ℕ) (rest : List (List ℕ)) (n : ℕ) → RowTaken clock rows (fields line) → TakenBefore clock (claim_in clock (fields line) ∷ rows) rest n → TakenBefore clock rows (line ∷ rest) (suc n)
 taken_more clock rows line rest n here before zero h = here
@@ -48,7 +48,7 @@ record FaultAmong (clock : Factor) (n : ℕ) (rows : List Claim) (ls : List (Lis
   within : index < length ls
   before : TakenBefore clock rows ls index
   said : Blame
-  refused : RowRefused clock (rows_onto clock rows (take index ls)) (fields (get_or ls index [])) said
+  refused : RowRefused clock (rows_onto clock rows (take index ls)) (fields (slice_index_or ls index [])) said
   blamed : b ≡ at_line (index + n) said
 
 rows_fault : (clock : Factor) (n : ℕ) (rows : List Claim) (ls : List (List ℕ)) (b : Blame) → RowsRead clock n rows ls (Err b) → FaultAmong clock n rows ls b

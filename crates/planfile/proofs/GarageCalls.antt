@@ -5,16 +5,16 @@ use Rattle.demand.specs.Refusals.{first}
 use Rattle.table.specs.declared.refusals.HoldRefusal.TheVariants.{Late}
 use Rattle.table.specs.Account.{Accepted, Refused, Withdraws, BoundsAnswered, hold_checks}
 use Rattle.planfile.specs.Figures.{garage_bounds, garage_vectors, car_hold, all_kept, car_gone}
-use Rattle.planfile.specs.Reading.{taking}
+use Rattle.planfile.specs.Reading.{account_with}
 use Rattle.planfile.proofs.GarageRows.{row_1, row_2, row_3, three, two_rows, above_car, three_rows}
 
 -- the car is accepted where the meters have a deadline of 9 or more, and it has one of 14 or more
-pub car_accepted : (m c : ℕ) → T (leb 9 m) → T (leb 14 c) → first (hold_checks (taking (row_2 ∷ row_1 m ∷ [])) (row_3 c)) ≡ 0 → Accepted (taking (row_2 ∷ row_1 m ∷ [])) (row_3 c) car_hold
+pub car_accepted : (m c : ℕ) → T (leb 9 m) → T (leb 14 c) → first (hold_checks (account_with (row_2 ∷ row_1 m ∷ [])) (row_3 c)) ≡ 0 → Accepted (account_with (row_2 ∷ row_1 m ∷ [])) (row_3 c) car_hold
 car_accepted m c h i pass =
     record { passes = pass; in_time = record { R = garage_bounds; V = garage_vectors; bounds = three_rows m c h i }; table = refl; row = refl }
 
 -- with 13 it is late
-pub car_late : Refused (taking (row_2 ∷ row_1 10 ∷ [])) (row_3 13) (Late 3)
+pub car_late : Refused (account_with (row_2 ∷ row_1 10 ∷ [])) (row_3 13) (Late 3)
 car_late =
     record {
       by_number = refl;
@@ -26,7 +26,7 @@ car_late =
     }
 
 -- with it, meters that have 8 are late
-pub meters_late : Refused (taking (row_2 ∷ row_1 8 ∷ [])) (row_3 40) (Late 1)
+pub meters_late : Refused (account_with (row_2 ∷ row_1 8 ∷ [])) (row_3 40) (Late 1)
 meters_late =
     record {
       by_number = refl;

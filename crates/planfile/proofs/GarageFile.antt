@@ -1,5 +1,5 @@
 -- How the files of the worked garage are read, computed. Assumes nothing.
-use Rattle.std.proofs.Common.{◌≡◌, ℕ, T, leb, List, [], ◌∷◌, get_or, Ok, Err, Result, refl, inl, inr}
+use Rattle.std.proofs.Common.{◌≡◌, ℕ, T, leb, List, [], ◌∷◌, slice_index_or, Ok, Err, Result, refl, inl, inr}
 use Rattle.analysis.specs.Ranks.{Claim}
 use Rattle.demand.specs.Refusals.{first}
 use Rattle.table.specs.declared.hold.Hold.{Hold as Token}
@@ -11,14 +11,14 @@ use Rattle.planfile.specs.Checks.{clock_checks, line_checks}
 use Rattle.planfile.specs.Fault.{nothing, first_blame, line_blame}
 use Rattle.planfile.specs.Figures.{even_clock, car_hold, garage_file, car_13, car_14, meters_8, meters_9, rows_in, file_rows, car_refused}
 use Rattle.planfile.specs.Laws.{factor_of, row_lines}
-use Rattle.planfile.specs.Reading.{taking, claim_in, first_fields, file_checks, RowTaken, RowsRead, FileRead}
+use Rattle.planfile.specs.Reading.{account_with, claim_in, first_fields, file_checks, RowTaken, RowsRead, FileRead}
 use Rattle.planfile.specs.Text.{fields}
 use Rattle.planfile.proofs.GarageCalls.{car_accepted, car_late, meters_late}
 use Rattle.planfile.proofs.GarageRows.{row_1, row_2, row_3, one_row, two_rows}
 
 -- a row line of a file
 abbrev line_at : List ℕ → ℕ → List ℕ
-line_at text i = get_or (row_lines text) i []
+line_at text i = slice_index_or (row_lines text) i []
 
 -- the fields of the card reader's line, which is the same in all files
 abbrev reader : List (List ℕ)
@@ -33,12 +33,12 @@ record Gives (text : List ℕ) (m c : ℕ) : Type 0 where
   three : row_lines text ≡ line_at text 0 ∷ line_at garage_file 1 ∷ line_at text 2 ∷ []
   meters_pass : first_blame (line_checks (fields (line_at text 0))) ≡ nothing
   meters : claim_in even_clock (fields (line_at text 0)) ≡ row_1 m
-  meters_checks : first (hold_checks (taking []) (row_1 m)) ≡ 0
+  meters_checks : first (hold_checks (account_with []) (row_1 m)) ≡ 0
   car_pass : first_blame (line_checks (fields (line_at text 2))) ≡ nothing
   car : claim_in even_clock (fields (line_at text 2)) ≡ row_3 c
 
 -- a row line is taken whose own checks pass, where its row is accepted
-row_taken : (rows : List Claim) (fs : List (List ℕ)) (c : Claim) (token : Token) → first_blame (line_checks fs) ≡ nothing → claim_in even_clock fs ≡ c → Accepted (taking rows) c token → RowTaken even_clock rows fs
+row_taken : (rows : List Claim) (fs : List (List ℕ)) (c : Claim) (token : Token) → first_blame (line_checks fs) ≡ nothing → claim_in even_clock fs ≡ c → Accepted (account_with rows) c token → RowTaken even_clock rows fs
 row_taken rows fs c token pass is accepted = record { passes = pass; token = token; accepted = rw is accepted }
 
 -- the card reader is taken behind the meters
@@ -61,12 +61,12 @@ module _ (text : List ℕ) (m c : ℕ) (it : Gives text m c) (h : T (leb 5 m)) w
       inr (it.whole, inr (it.clock, rw (it.even, it.three) all))
 
   -- the car is accepted, and so the file is read
-  is_read : Accepted (taking (row_2 ∷ row_1 m ∷ [])) (row_3 c) car_hold → FileRead text 512 (Ok (row_3 c ∷ row_2 ∷ row_1 m ∷ []))
+  is_read : Accepted (account_with (row_2 ∷ row_1 m ∷ [])) (row_3 c) car_hold → FileRead text 512 (Ok (row_3 c ∷ row_2 ∷ row_1 m ∷ []))
   is_read accepted =
       by_car _ (inr (row_taken (row_2 ∷ row_1 m ∷ []) (fields (line_at text 2)) (row_3 c) car_hold it.car_pass it.car accepted, rw it.car refl))
 
   -- it is refused with row n late, and so is the file
-  is_refused : (n : ℕ) → Refused (taking (row_2 ∷ row_1 m ∷ [])) (row_3 c) (Late n) → FileRead text 512 (Err (car_refused n))
+  is_refused : (n : ℕ) → Refused (account_with (row_2 ∷ row_1 m ∷ [])) (row_3 c) (Late n) → FileRead text 512 (Err (car_refused n))
   is_refused n refused =
       by_car _ (inl (line_blame (Hold (Late n)), inr (it.car_pass, (Late n, rw it.car refused, refl)), refl))
 

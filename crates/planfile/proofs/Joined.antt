@@ -1,11 +1,12 @@
 -- Texts that are made of parts, each before, between or behind what parts them. Assumes nothing.
-use Rattle.std.proofs.Common.{◌≡◌, ℕ, ◌+◌, ◌-◌, ◌*◌, ◌≤◌, true, false, eqb, List, [], ◌∷◌, ◌++◌, length, get_or, take, sym, refl, ap, ◌∙◌, arith}
+use Rattle.std.proofs.Common.{◌≡◌, ℕ, ◌+◌, ◌-◌, ◌*◌, ◌≤◌, true, false, eqb, List, [], ◌∷◌, ◌++◌, length, slice_index_or, take, sym, refl, ap, ◌∙◌, arith}
 use Rattle.std.proofs.lemmas.List.{append-nil, append_assoc, length-append, length_push, take_at, get_or_push}
 use Rattle.std.proofs.lemmas.Bool.{eq-eqb}
-use Rattle.std.specs.List.{AllByRecursion}
+use Rattle.std.specs.List.{AllByRecursion, flat_map}
+use Rattle.std.proofs.lemmas.Grind.{flat_map-append}
 use Rattle.std.proofs.lemmas.List.Elements.{All-from_recursion}
 use Rattle.std.proofs.lemmas.List.Splits.{slice_split_none, slice_split_at}
-use Rattle.planfile.specs.Text.{tab, newline, parted_by, lines, fields, ended}
+use Rattle.planfile.specs.Text.{tab, newline, parted_by, lines, fields, ends_with_newline}
 
 -- no byte is this one
 abbrev pub Lacks : ℕ → List ℕ → Type 0
@@ -26,12 +27,10 @@ parted_front separator p rest h =
 
 -- fields, each behind a tab
 abbrev pub tabbed : List (List ℕ) → List ℕ
-tabbed [] = []
-tabbed (p ∷ ps) = tab ∷ (p ++ tabbed ps)
+tabbed = flat_map (λ p. tab ∷ p)
 
 pub tabbed_append : (ps qs : List (List ℕ)) → tabbed (ps ++ qs) ≡ tabbed ps ++ tabbed qs
-tabbed_append [] qs = refl
-tabbed_append (p ∷ ps) qs = ap (λ (t : List ℕ). tab ∷ (p ++ t)) (tabbed_append ps qs) ∙ ap (λ (t : List ℕ). tab ∷ t) (sym (append_assoc p (tabbed ps) (tabbed qs)))
+tabbed_append = flat_map-append (λ p. tab ∷ p)
 
 -- what stands in a field that is written: neither a tab nor a newline, and few bytes
 pub record Part (p : List ℕ) : Type 0 where
@@ -40,8 +39,7 @@ pub record Part (p : List ℕ) : Type 0 where
   pub short : length p ≤ 10
 
 abbrev pub Parts : List (List ℕ) → Type 0
-Parts [] = Unit {0}
-Parts (p ∷ ps) = Part p × Parts ps
+Parts = AllByRecursion Part
 
 pub parts_append : (ps qs : List (List ℕ)) → Parts ps → Parts qs → Parts (ps ++ qs)
 parts_append [] qs h k = k
@@ -79,8 +77,7 @@ with_newlines [] = []
 with_newlines (l ∷ ls) = l ++ newline ∷ with_newlines ls
 
 abbrev pub WholeLines : List (List ℕ) → Type 0
-WholeLines [] = Unit {0}
-WholeLines (l ∷ ls) = Lacks newline l × WholeLines ls
+WholeLines = AllByRecursion (Lacks newline)
 
 parted_lines : (ls : List (List ℕ)) → WholeLines ls → parted_by newline (with_newlines ls) ≡ ls ++ [] ∷ []
 parted_lines [] h = refl
@@ -101,10 +98,10 @@ unfolding before_last
 last_newline l [] = refl
 last_newline l (m ∷ ms) = ap (λ (t : List ℕ). l ++ newline ∷ t) (last_newline m ms) ∙ sym (append_assoc l (newline ∷ before_last m ms) (newline ∷ []))
 
-ended_push : (t : List ℕ) → ended (t ++ newline ∷ []) ≡ true
+ended_push : (t : List ℕ) → ends_with_newline (t ++ newline ∷ []) ≡ true
 ended_push t =
     let n = length_push t newline in
-    eq-eqb (get_or (t ++ newline ∷ []) (length (t ++ newline ∷ []) - 1) 0) newline (get_or_push t newline 0 (length (t ++ newline ∷ []) - 1) (omega arith))
+    eq-eqb (slice_index_or (t ++ newline ∷ []) (length (t ++ newline ∷ []) - 1) 0) newline (get_or_push t newline 0 (length (t ++ newline ∷ []) - 1) (omega arith))
 
-pub lines_ended : (l : List ℕ) (ls : List (List ℕ)) → ended (with_newlines (l ∷ ls)) ≡ true
-lines_ended l ls = ap ended (last_newline l ls) ∙ ended_push (before_last l ls)
+pub lines_ended : (l : List ℕ) (ls : List (List ℕ)) → ends_with_newline (with_newlines (l ∷ ls)) ≡ true
+lines_ended l ls = ap ends_with_newline (last_newline l ls) ∙ ended_push (before_last l ls)

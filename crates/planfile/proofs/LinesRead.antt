@@ -1,5 +1,5 @@
 -- What the lines of a file give, one after the other. Assumes nothing.
-use Rattle.std.proofs.Common.{◌≡◌, ℕ, ◌+◌, ◌^◌, ◌<◌, ◌≤◌, List, [], ◌∷◌, map, length, get_or, drop, Option, Some, None, Ok, Err, Result, sym, refl, ap, ◌∙◌, subst, inl, inr, arith, drop_of_length-le, MatchResult}
+use Rattle.std.proofs.Common.{◌≡◌, ℕ, ◌+◌, ◌^◌, ◌<◌, ◌≤◌, List, [], ◌∷◌, map, length, slice_index_or, drop, Option, Some, None, Ok, Err, Result, sym, refl, ap, ◌∙◌, subst, inl, inr, arith, drop_of_length-le, MatchResult}
 use Rattle.std.specs.List.{enumerate_from}
 use Rattle.std.specs.Iterator.{YieldsFirst}
 use Rattle.std.specs.Iterator.Adapters.{enumerate_steps}
@@ -23,14 +23,14 @@ use Rattle.planfile.specs.Text.{lines, fields}
 use Rattle.planfile.proofs.Parted.{few_lines}
 
 -- the first of some lines, and the others
-first_of : (ls : List (List ℕ)) (line : List (List ℕ)) (rest : List (List (List ℕ))) → map fields ls ≡ line ∷ rest → (line ≡ fields (get_or ls 0 [])) × (rest ≡ map fields (drop 1 ls))
-first_of [] line rest e = absurd (cc)
-first_of (l ∷ ls) line rest e = (cc, cc)
+first_and_rest : (ls : List (List ℕ)) (line : List (List ℕ)) (rest : List (List (List ℕ))) → map fields ls ≡ line ∷ rest → (line ≡ fields (slice_index_or ls 0 [])) × (rest ≡ map fields (drop 1 ls))
+first_and_rest [] line rest e = absurd (cc)
+first_and_rest (l ∷ ls) line rest e = (cc, cc)
 
 -- a reader gives the clock line, and the row lines are left
 pub first_line : (file : List ℕ) (r s : Reader) (o : Option (List (List ℕ))) (line : List (List ℕ)) → r.text.now ≡ file → YieldsFirst lines_left r o s → o ≡ Some line → (line ≡ first_fields file) × (lines_left s ≡ map fields (row_lines file))
 first_line file r s o line text step is =
-    first_of (lines file) line (lines_left s) (ap (λ t. map fields (lines t)) (sym text) ∙ rw is at step)
+    first_and_rest (lines file) line (lines_left s) (ap (λ t. map fields (lines t)) (sym text) ∙ rw is at step)
 
 -- where lines are left, the reader gives one
 pub some_first : {S A : Type 0} (left : S → List A) (s t : S) (r : Option A) → YieldsFirst left s r t → 0 < length (left s) → IsSome r
@@ -57,11 +57,11 @@ module _ (file : List ℕ) (r s : Reader) (o : Option (List (List ℕ))) (line :
   row_count short = omega (arith, count_is, ap length rest_is, length-map (row_lines file) fields, few_rows file)
 
 -- the line of an index
-pub line_at : (ls : List (List ℕ)) (k i : ℕ) (line : List (List ℕ)) → (k < length (enumerate_from 0 (map fields ls))) × (◌≡◌ {A = ℕ × List (List ℕ)} (i, line) (get_or (enumerate_from 0 (map fields ls)) k (i, line))) → (k < length ls) × (i ≡ k) × (line ≡ fields (get_or ls k []))
+pub line_at : (ls : List (List ℕ)) (k i : ℕ) (line : List (List ℕ)) → (k < length (enumerate_from 0 (map fields ls))) × (◌≡◌ {A = ℕ × List (List ℕ)} (i, line) (slice_index_or (enumerate_from 0 (map fields ls)) k (i, line))) → (k < length ls) × (i ≡ k) × (line ≡ fields (slice_index_or ls k []))
 line_at ls k i line (lt, e) =
     let inside : k < length (map fields ls) = omega (arith, length-enumerate_from 0 (map fields ls)) in
     let within : k < length ls = omega (arith, length-map ls fields) in
-    let is : ◌≡◌ {A = ℕ × List (List ℕ)} (i, line) (0 + k, get_or (map fields ls) k line) = e ∙ get_or-enumerate_from 0 (map fields ls) k (i, line) inside in
+    let is : ◌≡◌ {A = ℕ × List (List ℕ)} (i, line) (0 + k, slice_index_or (map fields ls) k line) = e ∙ get_or-enumerate_from 0 (map fields ls) k (i, line) inside in
     let index : i ≡ 0 + k = ap (λ (p : ℕ × List (List ℕ)). p.0) is in
     (within, omega arith, ap (λ (p : ℕ × List (List ℕ)). p.1) is ∙ get_or-map fields ls k [] line within)
 
@@ -69,7 +69,7 @@ line_at ls k i line (lt, e) =
 pub clock_taken : (text : List ℕ) (clock : Factor) (r : Result (List Claim) Blame) → first_blame (clock_checks (first_fields text)) ≡ nothing → clock ≡ clock_of (first_fields text) → RowsRead clock 2 [] (row_lines text) r → LinesRead text r
 clock_taken text clock r e is rows = inr (e, subst (λ (k : Factor). RowsRead k 2 [] (row_lines text) r) is rows)
 
-module _ (clock : Factor) (n : ℕ) (rows : List Claim) (ls : List (List ℕ)) (k : ℕ) (within : k < length ls) (fs : List (List ℕ)) (here : fs ≡ fields (get_or ls k [])) where
+module _ (clock : Factor) (n : ℕ) (rows : List Claim) (ls : List (List ℕ)) (k : ℕ) (within : k < length ls) (fs : List (List ℕ)) (here : fs ≡ fields (slice_index_or ls k [])) where
   -- a row line is refused
   pub row_refused : (b : Blame) → RowRefused clock rows fs b → RowsRead clock n rows (drop k ls) (Err (at_line n b))
   row_refused b refused =

@@ -1,5 +1,5 @@
 -- A file has one answer: the definitions give no two for it. Assumes nothing.
-use Rattle.std.proofs.Common.{◌≡◌, ℕ, ◌+◌, ◌<◌, ◌≤◌, cond, eqb, ◌≢◌, ◌⊎◌, List, [], ◌∷◌, length, Ok, Err, Result, sym, refl, ap, ◌∙◌, inl, inr, arith}
+use Rattle.std.proofs.Common.{◌≡◌, ℕ, ◌+◌, ◌<◌, ◌≤◌, if◌then◌else◌, ◌==◌, ◌≢◌, ◌⊎◌, List, [], ◌∷◌, length, Ok, Err, Result, sym, refl, ap, ◌∙◌, inl, inr, arith}
 use Rattle.std.proofs.lemmas.Bool.Decides.{nat_tests}
 use Rattle.analysis.specs.Judge.{LateRow}
 use Rattle.analysis.specs.Plans.{System, FirstLate}
@@ -18,9 +18,10 @@ use Rattle.planfile.specs.declared.fault.Blame.{Blame}
 use Rattle.planfile.specs.Fault.{nothing, at_line, first_blame, line_blame, blame}
 use Rattle.planfile.specs.Text.{fields}
 use Rattle.planfile.specs.Checks.{clock_checks, entry_of}
-use Rattle.planfile.specs.Reading.{taking, claim_in, first_fields, file_checks, RowTaken, RowRefused, RowsRead, FileRead}
+use Rattle.planfile.specs.Reading.{account_with, claim_in, first_fields, file_checks, RowTaken, RowRefused, RowsRead, FileRead}
 use Rattle.planfile.specs.Loading.{Loaded}
 use Rattle.planfile.specs.Laws.{row_lines, factor_of, OneAnswer}
+use Rattle.planfile.proofs.Blames.{something}
 use Rattle.planfile.proofs.FileOrder.{rows_are}
 use Rattle.planfile.proofs.RowsAccepted.{claim_lawful, not_refused}
 
@@ -45,7 +46,7 @@ named_once ls m n grows (j, f, p) (k, g, q) =
     cc
 
 -- checks that say the same of two numbers, 0 of 11 and else the number, are of one number
-numbered_once : (m n : ℕ) → 5 ≤ m → 5 ≤ n → cond (eqb m 11) 0 m ≡ cond (eqb n 11) 0 n → m ≡ n
+numbered_once : (m n : ℕ) → 5 ≤ m → 5 ≤ n → (if m == 11 then 0 else m) ≡ (if n == 11 then 0 else n) → m ≡ n
 numbered_once m n h l e = grind (arith, nat_tests)
 
 -- a refusal is of a late row, or names none
@@ -59,7 +60,7 @@ late_or_none NoPlace = inr refl
 late_or_none (Late n) = inl refl
 
 -- two refusals of one row say the same
-refused_once : (rows : List Claim) (c : Claim) → LawfulRows (c ∷ rows) → (d e : HoldRefusal) → Refused (taking rows) c d → Refused (taking rows) c e → line_blame (Hold d) ≡ line_blame (Hold e)
+refused_once : (rows : List Claim) (c : Claim) → LawfulRows (c ∷ rows) → (d e : HoldRefusal) → Refused (account_with rows) c d → Refused (account_with rows) c e → line_blame (Hold d) ≡ line_blame (Hold e)
 refused_once rows c lawful d e p q =
     let same : hold_number d ≡ hold_number e = numbered_once (hold_number d) (hold_number e) (at_least_five d) (at_least_five e) (sym p.by_number ∙ q.by_number) in
     let late = go same (late_or_none d) (late_or_none e) in
@@ -75,7 +76,7 @@ refused_once rows c lawful d e p q =
 
 -- a check that applies has a number
 not_nothing : (a b : Blame) → a ≡ b → b.number ≢ 0 → a ≡ nothing → ⊥
-not_nothing a b e some none = some (ap (λ (x : Blame). x.number) (sym e ∙ none))
+not_nothing a b e some none = something b some (sym e ∙ none)
 
 module _ (clock : Factor) (rows : List Claim) (fs : List (List ℕ)) (lawful : LawfulRows rows) where
   -- the kind of a row line is lawful too

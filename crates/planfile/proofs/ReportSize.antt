@@ -1,5 +1,5 @@
 -- The report of twelve rows fits the memory that it is lent. Assumes nothing.
-use Rattle.std.proofs.Common.{ℕ, suc, ◌*◌, ◌^◌, ◌<◌, ◌≤◌, List, [], ◌∷◌, length, get_or, codes, arith}
+use Rattle.std.proofs.Common.{ℕ, suc, ◌*◌, ◌^◌, ◌<◌, ◌≤◌, List, [], ◌∷◌, length, slice_index_or, codes, arith}
 use Rattle.std.proofs.lemmas.Fmt.{length-decimal-le}
 use Rattle.std.proofs.lemmas.List.{length-append}
 use Rattle.analysis.specs.declared.Answer.{Answer}
@@ -24,11 +24,11 @@ line_fits a s = omega (
   length-decimal-le 10 a.blocking (omega arith) (omega arith) (omega arith),
 )
 
-lines_fit : (answers : List Answer) → ((k : ℕ) → k < length answers → SmallAnswer (get_or answers k no_answer)) → length (report answers) ≤ 41 * length answers
+lines_fit : (answers : List Answer) → ((k : ℕ) → k < length answers → SmallAnswer (slice_index_or answers k no_answer)) → length (report answers) ≤ 41 * length answers
 lines_fit [] s = omega arith
 lines_fit (a ∷ rest) s =
     omega (arith, length-append (report_line a) (report rest), line_fits a (s 0 (omega arith)), lines_fit rest (λ k h. s (suc k) (omega arith)))
 
 -- every report fits
-pub report_fits : (answers : List Answer) → length answers ≤ 12 → ((k : ℕ) → k < length answers → SmallAnswer (get_or answers k no_answer)) → length (report answers) ≤ 512
+pub report_fits : (answers : List Answer) → length answers ≤ 12 → ((k : ℕ) → k < length answers → SmallAnswer (slice_index_or answers k no_answer)) → length (report answers) ≤ 512
 report_fits answers few s = omega (arith, lines_fit answers s)

@@ -1,5 +1,5 @@
 -- The rows of a file have small numbers, so their report fits. Assumes nothing.
-use Rattle.std.proofs.Common.{◌≡◌, ℕ, zero, suc, ◌+◌, ◌^◌, ◌<◌, ◌≤◌, List, [], ◌∷◌, length, get_or, Ok, sym, subst, inl, inr, arith, pow_mono}
+use Rattle.std.proofs.Common.{◌≡◌, ℕ, zero, suc, ◌+◌, ◌^◌, ◌<◌, ◌≤◌, List, [], ◌∷◌, length, slice_index_or, Ok, sym, subst, inl, inr, arith, pow_mono}
 use Rattle.analysis.specs.declared.Answer.{Answer}
 use Rattle.analysis.specs.declared.Row.{Row}
 use Rattle.analysis.specs.Judge.{Answered, InTime, no_answer, bounds_of, vectors_of}
@@ -11,7 +11,7 @@ use Rattle.table.specs.Agreement.{LawfulRows}
 use Rattle.table.proofs.Shared.{passed, needs_grow, length_ranks}
 use Rattle.demand.specs.declared.factor.Factor.{Factor}
 use Rattle.planfile.specs.Checks.{entry_of}
-use Rattle.planfile.specs.Reading.{taking, claim_in, RowTaken, RowsRead, LinesRead}
+use Rattle.planfile.specs.Reading.{account_with, claim_in, RowTaken, RowsRead, LinesRead}
 use Rattle.planfile.specs.Report.{report}
 use Rattle.planfile.specs.Text.{fields}
 use Rattle.planfile.proofs.ReportSize.{SmallAnswer, report_fits}
@@ -29,7 +29,7 @@ AllLimited (c ∷ cs) = Limited c × AllLimited cs
 -- a row that is taken is within its limits, and there was room for it
 row_limited : (clock : Factor) (rows : List Claim) (fs : List (List ℕ)) → RowTaken clock rows fs → Limited (claim_in clock fs) × (length rows < 12)
 row_limited clock rows fs taken =
-    let p = passed (taking rows) (claim_in clock fs) taken.accepted.passes in
+    let p = passed (account_with rows) (claim_in clock fs) taken.accepted.passes in
     let law = claim_lawful clock (entry_of fs) in
     (record { number = p.byte; deadline = let a = p.deadline in let b = law.spacing_limited in omega arith }, p.room)
 
@@ -60,7 +60,7 @@ limited_at all (c ∷ cs) h zero l = h.0
 limited_at all (c ∷ cs) h (suc k) l = limited_at all cs h.1 k (omega arith)
 
 -- the answer for a rank is small
-small_answer : (rows : List Claim) (answers : List Answer) → AllLimited rows → length rows ≤ 12 → Answered (loads (ranking rows)) answers → (k : ℕ) → k < length answers → SmallAnswer (get_or answers k no_answer)
+small_answer : (rows : List Claim) (answers : List Answer) → AllLimited rows → length rows ≤ 12 → Answered (loads (ranking rows)) answers → (k : ℕ) → k < length answers → SmallAnswer (slice_index_or answers k no_answer)
 small_answer rows answers small few answered k l =
     let ls = loads (ranking rows) in
     let within : k < length ls = (let e = answered.count in omega arith) in

@@ -1,5 +1,5 @@
 -- A plan file that was written from rows in time loads to their report. Assumes nothing.
-use Rattle.std.proofs.Common.{◌≡◌, ℕ, ◌+◌, ◌*◌, ◌≤◌, cond, not, ◌||◌, ltb, ◌≢◌, List, [], ◌∷◌, map, length, get_or, drop, Ok, Err, codes, Result, sym, ap, ◌∙◌, subst, inl, inr, arith}
+use Rattle.std.proofs.Common.{◌≡◌, ℕ, ◌+◌, ◌*◌, ◌≤◌, if◌then◌else◌, not, ◌||◌, ltb, ◌≢◌, List, [], ◌∷◌, map, length, slice_index_or, drop, Ok, Err, codes, Result, sym, ap, ◌∙◌, subst, inl, inr, arith}
 use Rattle.std.proofs.lemmas.List.{length-append}
 use Rattle.std.proofs.lemmas.Bool.{cond-false, le-ltb, or_from, not_from_true}
 use Rattle.analysis.specs.Judge.{InTime}
@@ -8,12 +8,13 @@ use Rattle.table.specs.Account.{Refused}
 use Rattle.demand.specs.declared.factor.Factor.{Factor}
 use Rattle.planfile.specs.declared.fault.Fault.{Fault}
 use Rattle.planfile.specs.declared.fault.Blame.{Blame}
-use Rattle.planfile.specs.Fault.{nothing, by, first_blame, blame}
-use Rattle.planfile.specs.Text.{newline, lines, fields, ended}
+use Rattle.planfile.specs.Fault.{nothing, by_number, first_blame, blame}
+use Rattle.planfile.specs.Text.{newline, lines, fields, ends_with_newline}
 use Rattle.planfile.specs.Checks.{Entry, clock_checks, clock_of, line_checks, claim_of}
-use Rattle.planfile.specs.Reading.{taking, first_fields, file_checks, RowRefused, RowsRead, FileRead}
+use Rattle.planfile.specs.Reading.{account_with, first_fields, file_checks, RowRefused, RowsRead, FileRead}
 use Rattle.planfile.specs.Loading.{Loaded}
 use Rattle.planfile.specs.Laws.{plan_text, claims_onto, NumbersPass, SoundPlan, RoundTrip}
+use Rattle.planfile.proofs.Blames.{something}
 use Rattle.planfile.proofs.FileOrder.{not_both, same_ok}
 use Rattle.planfile.proofs.Joined.{Parts, WholeLines, with_newlines, line_lacks, line_short, lines_are, lines_ended}
 use Rattle.planfile.proofs.RowsAccepted.{SoundBehind, sound_more, few_entries, entry_not_refused}
@@ -22,7 +23,7 @@ use Rattle.planfile.proofs.WrittenPass.{entry_is, row_passes, clock_parts_are, c
 
 -- nothing has no number
 no_blame : (a b : Blame) → a ≡ nothing → a ≡ b → b.number ≢ 0 → ⊥
-no_blame a b p q ne = ne (ap (λ (c : Blame). c.number) (sym q ∙ p))
+no_blame a b p q ne = something b ne (sym q ∙ p)
 
 module _ (clock : Factor) where
   -- a written row line is not refused
@@ -31,7 +32,7 @@ module _ (clock : Factor) where
       no_blame (first_blame (line_checks (fields (row_line e)))) b (row_passes e s.numbers.0 s.numbers.1) x.0 x.1
   line_not_refused rows e es s b (inr x) =
       entry_not_refused clock rows e es s x.1.0
-      (subst (λ (f : Entry). Refused (taking rows) (claim_of clock f) x.1.0) (entry_is e s.numbers.0) x.1.1)
+      (subst (λ (f : Entry). Refused (account_with rows) (claim_of clock f) x.1.0) (entry_is e s.numbers.0) x.1.1)
 
   -- the written row lines give the rows of the entries, and nothing else
   rows_read : (n : ℕ) (rows : List Claim) (es : List Entry) → SoundBehind clock rows es → (r : Result (List Claim) Blame) → RowsRead clock n rows (map row_line es) r → r ≡ Ok (claims_onto clock rows es)
@@ -80,12 +81,12 @@ module _ (clock : Factor) (es : List Entry) (sound : SoundPlan clock es) where
 
   file_passes : (room : ℕ) → 512 ≤ room → first_blame (file_checks whole room) ≡ nothing
   file_passes room enough =
-      cond-false (ltb room 512) (by 19) (cond (ltb 4096 (length whole) || not (ended whole)) (by 18) nothing) (le-ltb room 512 enough)
-      ∙ cond-false (ltb 4096 (length whole) || not (ended whole)) (by 18) nothing
-      (or_from (ltb 4096 (length whole)) (not (ended whole)) (le-ltb 4096 (length whole) few_bytes) (not_from_true (ended whole) (lines_ended (clock_line clock) (map row_line es))))
+      cond-false (ltb room 512) (by_number 19) (if ltb 4096 (length whole) || not (ends_with_newline whole) then by_number 18 else nothing) (le-ltb room 512 enough)
+      ∙ cond-false (ltb 4096 (length whole) || not (ends_with_newline whole)) (by_number 18) nothing
+      (or_from (ltb 4096 (length whole)) (not (ends_with_newline whole)) (le-ltb 4096 (length whole) few_bytes) (not_from_true (ends_with_newline whole) (lines_ended (clock_line clock) (map row_line es))))
 
   first_line : first_fields whole ≡ fields (clock_line clock)
-  first_line = ap (λ (ls : List (List ℕ)). fields (get_or ls 0 [])) lines_of
+  first_line = ap (λ (ls : List (List ℕ)). fields (slice_index_or ls 0 [])) lines_of
 
   clock_line_passes : first_blame (clock_checks (first_fields whole)) ≡ nothing
   clock_line_passes = ap (λ (fs : List (List ℕ)). first_blame (clock_checks fs)) first_line ∙ clock_passes clock sound.numerator sound.denominator sound.factor

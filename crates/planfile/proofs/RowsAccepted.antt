@@ -16,7 +16,7 @@ use Rattle.table.proofs.Promise.{is_late}
 use Rattle.table.proofs.Shared.{needs_grow, ranked_lawful, has_plan, passed}
 use Rattle.demand.specs.declared.factor.Factor.{Factor}
 use Rattle.planfile.specs.Checks.{Jobs, Entry, jobs_demand, claim_of}
-use Rattle.planfile.specs.Reading.{taking}
+use Rattle.planfile.specs.Reading.{account_with}
 use Rattle.planfile.specs.Laws.{claims_onto, NumbersPass}
 
 jobs_lawful : (jobs : Jobs) → Lawful (jobs_demand jobs)
@@ -44,13 +44,13 @@ lawful_onto clock rows (e ∷ es) h = lawful_onto clock (claim_of clock e ∷ ro
 distinct_onto : (clock : Factor) (rows : List Claim) (es : List Entry) → NumbersPass clock rows es → DistinctPriorities rows → DistinctPriorities (claims_onto clock rows es)
 distinct_onto clock rows [] pass d = d
 distinct_onto clock rows (e ∷ es) pass d =
-    distinct_onto clock (claim_of clock e ∷ rows) es pass.3 ((passed (taking rows) (claim_of clock e) pass.2).priority, d)
+    distinct_onto clock (claim_of clock e ∷ rows) es pass.3 ((passed (account_with rows) (claim_of clock e) pass.2).priority, d)
 
 -- there are no more entries than a table has places
 pub few_entries : (clock : Factor) (rows : List Claim) (es : List Entry) → NumbersPass clock rows es → length rows ≤ 12 → length es + length rows ≤ 12
 few_entries clock rows [] pass few = omega arith
 few_entries clock rows (e ∷ es) pass few =
-    let room = (passed (taking rows) (claim_of clock e) pass.2).room in
+    let room = (passed (account_with rows) (claim_of clock e) pass.2).room in
     let rest = few_entries clock (claim_of clock e ∷ rows) es pass.3 (omega arith) in
     omega arith
 
@@ -66,7 +66,7 @@ pub sound_more : (clock : Factor) (rows : List Claim) (e : Entry) (es : List Ent
 sound_more clock rows e es s =
     record {
       numbers = s.numbers.3;
-      distinct = ((passed (taking rows) (claim_of clock e) s.numbers.2).priority, s.distinct);
+      distinct = ((passed (account_with rows) (claim_of clock e) s.numbers.2).priority, s.distinct);
       lawful = (claim_lawful clock e, s.lawful);
       in_time = s.in_time;
     }
@@ -80,13 +80,13 @@ rows_in_time clock rows es s =
     record { R = left.Q; V = left.W; bounds = left.bounds }
 
 -- a row that passes all checks, and is in time with the others, is not refused
-pub not_refused : (rows : List Claim) (c : Claim) → LawfulRows (c ∷ rows) → first (hold_checks (taking rows) c) ≡ 0 → AllInTime (c ∷ rows) → (r : HoldRefusal) → Refused (taking rows) c r → ⊥
+pub not_refused : (rows : List Claim) (c : Claim) → LawfulRows (c ∷ rows) → first (hold_checks (account_with rows) c) ≡ 0 → AllInTime (c ∷ rows) → (r : HoldRefusal) → Refused (account_with rows) c r → ⊥
 not_refused rows c lawful pass t r refused =
     let late = refused.late (is_late r (sym refused.by_number ∙ pass)) in
     has_plan (c ∷ rows) lawful t (late_no_plan (system_of (c ∷ rows)) (needs_grow (c ∷ rows) lawful) late.0 late.1)
 
 -- so the first entry is not
-pub entry_not_refused : (clock : Factor) (rows : List Claim) (e : Entry) (es : List Entry) → SoundBehind clock rows (e ∷ es) → (r : HoldRefusal) → Refused (taking rows) (claim_of clock e) r → ⊥
+pub entry_not_refused : (clock : Factor) (rows : List Claim) (e : Entry) (es : List Entry) → SoundBehind clock rows (e ∷ es) → (r : HoldRefusal) → Refused (account_with rows) (claim_of clock e) r → ⊥
 entry_not_refused clock rows e es s =
     let more = sound_more clock rows e es s in
     not_refused rows (claim_of clock e) more.lawful s.numbers.2 (rows_in_time clock (claim_of clock e ∷ rows) es more)

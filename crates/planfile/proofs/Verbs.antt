@@ -1,5 +1,5 @@
 -- A verb is told by its length and its bytes, one by one.
-use Rattle.std.proofs.Common.{◌≡◌, ℕ, cond, List, codes}
+use Rattle.std.proofs.Common.{◌≡◌, ℕ, if◌then◌else◌, List, codes}
 use Rattle.planfile.specs.declared.word.Verb.{Verb}
 use Rattle.planfile.specs.declared.word.Verb.TheVariants.{Table, Hold, Keep, Release, Withdraw, Bound, Rows, Other}
 use Rattle.planfile.specs.Requests.{verb_of}
@@ -8,13 +8,14 @@ use Rattle.planfile.proofs.Words.{is, same_is}
 -- the verb that a field is, by the field's length and bytes
 abbrev pub verb_by : List ℕ → Verb
 verb_by f =
-    cond (is f (codes "table")) Table
-    (cond (is f (codes "hold")) Hold
-    (cond (is f (codes "keep")) Keep
-    (cond (is f (codes "release")) Release
-    (cond (is f (codes "withdraw")) Withdraw
-    (cond (is f (codes "bound")) Bound
-    (cond (is f (codes "rows")) Rows Other))))))
+    if is f (codes "table") then Table
+    else if is f (codes "hold") then Hold
+    else if is f (codes "keep") then Keep
+    else if is f (codes "release") then Release
+    else if is f (codes "withdraw") then Withdraw
+    else if is f (codes "bound") then Bound
+    else if is f (codes "rows") then Rows
+    else Other
 
 -- the verb that a field is, so told
 pub verb_is : (f : List ℕ) → verb_of f ≡ verb_by f

@@ -1,5 +1,5 @@
 -- A word is told by its length and its bytes, one by one.
-use Rattle.std.proofs.Common.{◌≡◌, ℕ, suc, Bool, true, cond, ◌&&◌, eqb, ◌==◌, List, [], ◌∷◌, length, get_or, codes, refl, arith}
+use Rattle.std.proofs.Common.{◌≡◌, ℕ, suc, Bool, true, if◌then◌else◌, ◌&&◌, eqb, ◌==◌, List, [], ◌∷◌, length, slice_index_or, codes, refl, arith}
 use Rattle.std.proofs.lemmas.Bool.Decides.{nat_tests}
 use Rattle.planfile.specs.declared.word.Word.{Word}
 use Rattle.planfile.specs.declared.word.Word.TheVariants.{Clock, Row, Every, Heavy, Other}
@@ -9,7 +9,7 @@ use Rattle.planfile.specs.Text.{word_of}
 -- the bytes w stand in f from index i on
 abbrev pub reads : List ℕ → ℕ → List ℕ → Bool
 reads f i [] = true
-reads f i (b ∷ w) = eqb (get_or f i 0) b && reads f (suc i) w
+reads f i (b ∷ w) = eqb (slice_index_or f i 0) b && reads f (suc i) w
 
 -- a byte in front moves the index by one
 reads_behind : (x : ℕ) (f : List ℕ) (i : ℕ) (w : List ℕ) → reads (x ∷ f) (suc i) w ≡ reads f i w
@@ -30,10 +30,11 @@ same_is (x ∷ f) (b ∷ w) = rw (same_is f w, reads_behind x f 0 w) (grind (ari
 -- the word that a field is, by the field's length and bytes
 abbrev pub word_by : List ℕ → Word
 word_by f =
-    cond (is f (codes "clock")) Clock
-    (cond (is f (codes "row")) Row
-    (cond (is f (codes "every")) Every
-    (cond (is f (codes "heavy")) Heavy Other)))
+    if is f (codes "clock") then Clock
+    else if is f (codes "row") then Row
+    else if is f (codes "every") then Every
+    else if is f (codes "heavy") then Heavy
+    else Other
 
 -- the word that a field is, so told
 pub word_is : (f : List ℕ) → word_of f ≡ word_by f

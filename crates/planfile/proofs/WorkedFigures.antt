@@ -1,6 +1,8 @@
 -- The worked figures, computed. Assumes nothing.
-use Rattle.std.proofs.Common.{◌≡◌, ℕ, zero, suc, ◌<◌, Bool, true, ◌&&◌, leb, List, [], ◌∷◌, length, get_or, refl, arith}
-use Rattle.std.proofs.lemmas.Bool.{and_parts, leb-true}
+use Rattle.std.proofs.Common.{◌≡◌, ℕ, zero, suc, ◌<◌, Bool, true, nat_le, List, [], ◌∷◌, length, slice_index_or, refl, arith}
+use Rattle.std.proofs.lemmas.Bool.{leb-true}
+use Rattle.std.specs.List.{list_all}
+use Rattle.std.proofs.lemmas.List.Sums.{AllPass-from_list_all}
 use Rattle.std.specs.Fmt.{digits}
 use Rattle.analysis.specs.Judge.{RowAnswered, InTime, no_answer, bounds_of, vectors_of}
 use Rattle.analysis.specs.Plans.{Bounds}
@@ -12,6 +14,7 @@ use Rattle.table.proofs.Shared.{needs_grow}
 use Rattle.planfile.specs.Checks.{Entry}
 use Rattle.planfile.specs.Figures.{garage_bounds, garage_vectors, TextFigures, WorkedFigures, even_clock, entry_with, garage_entries, garage_answers, file_rows}
 use Rattle.planfile.specs.Laws.{numbers_of, jobs_numbers, AllFit, Writable, SoundPlan}
+use Rattle.planfile.specs.Text.{largest_number}
 use Rattle.planfile.proofs.GarageCalls.{car_accepted, car_late, meters_late, car_withdrawn, then_one, then_two}
 use Rattle.planfile.proofs.GarageFile.{garage_read, car_13_refused, car_14_read, meters_8_refused, meters_9_read}
 use Rattle.planfile.proofs.GarageRows.{three, three_rows}
@@ -35,14 +38,10 @@ text_figures =
 
 -- all are at most the largest number of a field
 abbrev all_low : List ℕ → Bool
-all_low [] = true
-all_low (n ∷ ns) = leb n 4_294_967_295 && all_low ns
+all_low = list_all (λ n. nat_le n largest_number)
 
 all_fit : (ns : List ℕ) → all_low ns ≡ true → AllFit ns
-all_fit [] e = tt
-all_fit (n ∷ ns) e =
-    let both = and_parts (leb n 4_294_967_295) (all_low ns) e in
-    (leb-true n 4_294_967_295 both.0, all_fit ns both.1)
+all_fit ns e k d within = leb-true _ largest_number (AllPass-from_list_all (λ n. nat_le n largest_number) ns e k d within)
 
 -- an entry whose numbers are low can be written
 writable : (e : Entry) → length e.row.sections ≡ 8 → all_low (numbers_of e) ≡ true → all_low (jobs_numbers e.jobs) ≡ true → Writable e
@@ -66,7 +65,7 @@ sound =
 lawful : LawfulRows file_rows
 lawful = lawful_onto even_clock [] garage_entries tt
 
-each_answer : (k : ℕ) → k < 3 → RowAnswered (at (loads (ranking file_rows)) k) (get_or garage_answers k no_answer)
+each_answer : (k : ℕ) → k < 3 → RowAnswered (at (loads (ranking file_rows)) k) (slice_index_or garage_answers k no_answer)
 each_answer zero l = record { number = refl; blocking = refl }
 each_answer (suc zero) l = record { number = refl; blocking = refl }
 each_answer (suc (suc zero)) l = record { number = refl; blocking = refl }

@@ -1,21 +1,25 @@
 -- What the lines of a written plan file are. Assumes nothing.
 use Rattle.std.proofs.Common.{◌≡◌, ℕ, ◌<◌, ◌≤◌, true, false, not, leb, List, [], ◌∷◌, ◌++◌, map, length, codes, decimal, sym, refl, ap, ◌∙◌, arith}
+use Rattle.std.specs.List.{AllByRecursion}
+use Rattle.std.proofs.lemmas.List.Elements.{recursion_from_All}
+use Rattle.std.specs.Char.{is_ascii_digit}
+use Rattle.std.specs.Str.{all_ascii_digits}
 use Rattle.std.proofs.lemmas.Fmt.{digits_decimal, digits_value-decimal, decimal_nonempty, length-decimal-le}
 use Rattle.std.proofs.lemmas.List.{append_assoc, length-append, length-map}
 use Rattle.std.proofs.lemmas.Bool.{and_parts, leb-true, ne_eqb, not_from_true}
 use Rattle.demand.specs.declared.factor.Factor.{Factor}
 use Rattle.either.specs.declared.Either.TheVariants.{Left, Right}
 use Rattle.planfile.specs.Checks.{Jobs, Entry}
-use Rattle.planfile.specs.Text.{newline, tab, is_digit, all_digits, value, is_number}
+use Rattle.planfile.specs.Text.{newline, tab, value, largest_number, is_number}
 use Rattle.planfile.specs.Report.{number_fields}
 use Rattle.planfile.specs.Laws.{jobs_text, numbers_of, row_text, rows_text, clock_text, plan_text, AllFit, jobs_numbers, Writable}
 use Rattle.planfile.proofs.Numbers.{own, number_from}
 use Rattle.planfile.proofs.Joined.{Lacks, Part, Parts, parts_append, tabbed, tabbed_append, with_newlines}
 
-digits_lack : (separator : ℕ) → separator < 48 → (ds : List ℕ) → all_digits ds ≡ true → Lacks separator ds
+digits_lack : (separator : ℕ) → separator < 48 → (ds : List ℕ) → all_ascii_digits ds ≡ true → Lacks separator ds
 digits_lack separator low [] h = tt
 digits_lack separator low (b ∷ ds) h =
-    let both = and_parts (is_digit b) (all_digits ds) h in
+    let both = and_parts (is_ascii_digit b) (all_ascii_digits ds) h in
     let digit = and_parts (leb 48 b) (leb b 57) both.0 in
     let least = leb-true 48 b digit.0 in
     (ne_eqb b separator (λ e. omega arith), digits_lack separator low ds both.1)
@@ -37,7 +41,15 @@ module _ (n : ℕ) (fits : n ≤ 4_294_967_295) where
       let same = reads in
       not_from_true (is_number (decimal n)) (number_from (decimal n) (decimal_nonempty n (omega arith)) (digits_decimal own n (omega arith)) (omega arith))
 
-pub decimal_parts : (ns : List ℕ) → AllFit ns → Parts (map decimal ns)
+-- each number fits a field
+abbrev pub EachFits : List ℕ → Type 0
+EachFits = AllByRecursion (λ n. n ≤ largest_number)
+
+-- so do those that the law asks for
+pub each_fits : (ns : List ℕ) → AllFit ns → EachFits ns
+each_fits = recursion_from_All (λ n. n ≤ largest_number)
+
+pub decimal_parts : (ns : List ℕ) → EachFits ns → Parts (map decimal ns)
 decimal_parts [] h = tt
 decimal_parts (n ∷ ns) h = (decimal_part n h.0, decimal_parts ns h.1)
 
@@ -57,7 +69,7 @@ jobs_tabbed (Right k) = ap (λ (s : List ℕ). tab ∷ (codes "heavy" ++ s)) (nu
 word_part : (word : List ℕ) → Lacks tab word → Lacks newline word → length word ≤ 10 → Part word
 word_part word t n s = record { no_tab = t; no_newline = n; short = s }
 
-jobs_parts_are : (jobs : Jobs) → AllFit (jobs_numbers jobs) → Parts (jobs_parts jobs) × (length (jobs_parts jobs) ≤ 5)
+jobs_parts_are : (jobs : Jobs) → EachFits (jobs_numbers jobs) → Parts (jobs_parts jobs) × (length (jobs_parts jobs) ≤ 5)
 jobs_parts_are (Left k) h = ((word_part (codes "every") (refl, (refl, (refl, (refl, (refl, tt))))) (refl, (refl, (refl, (refl, (refl, tt))))) (omega arith), decimal_parts (k.job ∷ k.period ∷ []) h), omega arith)
 jobs_parts_are (Right k) h = ((word_part (codes "heavy") (refl, (refl, (refl, (refl, (refl, tt))))) (refl, (refl, (refl, (refl, (refl, tt))))) (omega arith), decimal_parts (k.job ∷ k.heavy ∷ k.among ∷ k.period ∷ []) h), omega arith)
 
@@ -67,11 +79,11 @@ row_parts e = map decimal (numbers_of e) ++ jobs_parts e.jobs
 
 pub row_parts_are : (e : Entry) → Writable e → Parts (row_parts e) × (length (row_parts e) ≤ 19)
 row_parts_are e w =
-    let jobs = jobs_parts_are e.jobs w.jobs in
+    let jobs = jobs_parts_are e.jobs (each_fits (jobs_numbers e.jobs) w.jobs) in
     let locks = w.locks in
     let few = jobs.1 in
     let most : length (row_parts e) ≤ 19 = simp (length-append, length-map) (omega arith) in
-    (parts_append (map decimal (numbers_of e)) (jobs_parts e.jobs) (decimal_parts (numbers_of e) w.numbers) jobs.0, most)
+    (parts_append (map decimal (numbers_of e)) (jobs_parts e.jobs) (decimal_parts (numbers_of e) (each_fits (numbers_of e) w.numbers)) jobs.0, most)
 
 pub row_word : Part (codes "row")
 row_word = word_part (codes "row") (refl, (refl, (refl, tt))) (refl, (refl, (refl, tt))) (omega arith)

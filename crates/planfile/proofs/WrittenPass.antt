@@ -1,15 +1,15 @@
 -- The lines of a written plan file pass their checks, and say what was written. Assumes nothing.
-use Rattle.std.proofs.Common.{◌≡◌, ℕ, zero, suc, ◌+◌, ◌-◌, ◌≤◌, not, List, [], ◌∷◌, ◌++◌, map, length, get_or, drop, codes, decimal, refl, ap, ◌∙◌, subst, arith}
+use Rattle.std.proofs.Common.{◌≡◌, ℕ, zero, suc, ◌+◌, ◌-◌, ◌≤◌, not, List, [], ◌∷◌, ◌++◌, map, length, slice_index_or, drop, codes, decimal, refl, ap, ◌∙◌, subst, arith}
 use Rattle.demand.specs.Refusals.{first, slowed_checks}
-use Rattle.planfile.proofs.Blames.{NoneApply, none_front, none_append, first_of_none}
+use Rattle.planfile.proofs.Blames.{NoneApply, none_front, none_append, first_blame-blames_by_number}
 use Rattle.demand.specs.declared.factor.Factor.{Factor}
 use Rattle.either.specs.declared.Either.TheVariants.{Left, Right}
-use Rattle.planfile.specs.Fault.{nothing, first_blame, by}
+use Rattle.planfile.specs.Fault.{nothing, first_blame, by_number}
 use Rattle.planfile.specs.Text.{fields, field, word_of, value, is_number}
-use Rattle.planfile.specs.Checks.{Jobs, Entry, number_checks, blaming_none, clock_of, clock_checks, entry_of, jobs_in, shape_checks, text_checks, kind_checks, line_checks}
-use Rattle.planfile.specs.Laws.{numbers_of, AllFit, jobs_numbers, Writable}
+use Rattle.planfile.specs.Checks.{Jobs, Entry, number_checks, blames_by_number, clock_of, clock_checks, entry_of, jobs_in, shape_checks, text_checks, kind_checks, line_checks}
+use Rattle.planfile.specs.Laws.{numbers_of, jobs_numbers, Writable}
 use Rattle.planfile.proofs.Joined.{Parts, fields_are}
-use Rattle.planfile.proofs.WrittenLines.{reads, number_passes, decimal_parts, row_parts, row_parts_are, row_word, row_line, clock_word, clock_parts, clock_line}
+use Rattle.planfile.proofs.WrittenLines.{EachFits, each_fits, reads, number_passes, decimal_parts, row_parts, row_parts_are, row_word, row_line, clock_word, clock_parts, clock_line}
 
 -- these numbers are written in the fields from field k on
 abbrev NumbersAt : List (List ℕ) → ℕ → List ℕ → Type 0
@@ -17,7 +17,7 @@ NumbersAt fs k [] = Unit {0}
 NumbersAt fs k (n ∷ ns) = (field k fs ≡ decimal n) × NumbersAt fs (k + 1) ns
 
 -- fields of numbers pass
-numbers_pass : (fs : List (List ℕ)) (k : ℕ) (ns : List ℕ) → NumbersAt fs k ns → AllFit ns → NoneApply (number_checks fs k (length ns))
+numbers_pass : (fs : List (List ℕ)) (k : ℕ) (ns : List ℕ) → NumbersAt fs k ns → EachFits ns → NoneApply (number_checks fs k (length ns))
 numbers_pass fs k [] h fit = tt
 numbers_pass fs k (n ∷ ns) h fit =
     (ap (λ (f : List ℕ). not (is_number f)) h.0 ∙ number_passes n fit.0, numbers_pass fs (k + 1) ns h.1 fit.1)
@@ -43,15 +43,15 @@ module _ (clock : Factor) (numerator : clock.numerator ≤ 4_294_967_295) (denom
   pub clock_passes : first (slowed_checks clock.numerator clock.denominator) ≡ 0 → first_blame (clock_checks (fields (clock_line clock))) ≡ nothing
   clock_passes z =
       ap (λ (fs : List (List ℕ)). first_blame (clock_checks fs)) first_fields_are
-      ∙ none_front (number_checks (clock_written clock) 2 2) (blaming_none (slowed_checks (value (decimal clock.numerator)) (value (decimal clock.denominator))))
+      ∙ none_front (number_checks (clock_written clock) 2 2) (blames_by_number (slowed_checks (value (decimal clock.numerator)) (value (decimal clock.denominator))))
       (numbers_pass (clock_written clock) 2 (clock.numerator ∷ clock.denominator ∷ []) (refl, (refl, tt)) (numerator, (denominator, tt)))
-      ∙ ap (λ (c : Factor). first_blame (blaming_none (slowed_checks c.numerator c.denominator))) clock_says
-      ∙ (first_of_none (slowed_checks clock.numerator clock.denominator) ∙ ap by z)
+      ∙ ap (λ (c : Factor). first_blame (blames_by_number (slowed_checks c.numerator c.denominator))) clock_says
+      ∙ (first_blame-blames_by_number (slowed_checks clock.numerator clock.denominator) ∙ ap by_number z)
 
 -- the first n of a list, 0 where there are fewer
 abbrev firsts : ℕ → List ℕ → List ℕ
 firsts zero xs = []
-firsts (suc n) xs = get_or xs 0 0 ∷ firsts n (drop 1 xs)
+firsts (suc n) xs = slice_index_or xs 0 0 ∷ firsts n (drop 1 xs)
 
 -- a list of n is its first n
 firsts_are : (n : ℕ) (xs : List ℕ) → length xs ≡ n → firsts n xs ≡ xs
@@ -80,13 +80,13 @@ abbrev row_written : Entry → List (List ℕ)
 row_written e = codes "row" ∷ row_parts e
 
 -- all numbers are read back
-all_read : (ns : List ℕ) → AllFit ns → map value (map decimal ns) ≡ ns
+all_read : (ns : List ℕ) → EachFits ns → map value (map decimal ns) ≡ ns
 all_read [] h = refl
 all_read (n ∷ ns) h = λ i. reads n h.0 i ∷ all_read ns h.1 i
 
 -- the fields of an entry's row line pass, and say what the entry says
 abbrev SaidByLine : Entry → Type 0
-SaidByLine e = AllFit (numbers_of e) → AllFit (jobs_numbers e.jobs) → NoneApply (text_checks (row_written e)) × (entry_of (row_written e) ≡ e)
+SaidByLine e = EachFits (numbers_of e) → EachFits (jobs_numbers e.jobs) → NoneApply (text_checks (row_written e)) × (entry_of (row_written e) ≡ e)
 
 module _ (e : Entry) (ss : List ℕ) where
   -- the entry with eight sections
@@ -100,16 +100,16 @@ module _ (e : Entry) (ss : List ℕ) where
   shape_passes (Left k) = (refl, (refl, (refl, tt)))
   shape_passes (Right k) = (refl, (refl, (refl, tt)))
 
-  front_passes : (jobs : Jobs) → AllFit (numbers_of (eight jobs)) → NoneApply (number_checks (line jobs) 2 14)
+  front_passes : (jobs : Jobs) → EachFits (numbers_of (eight jobs)) → NoneApply (number_checks (line jobs) 2 14)
   front_passes jobs n =
       numbers_pass (line jobs) 2 (numbers_of (eight jobs))
       (refl, (refl, (refl, (refl, (refl, (refl, (refl, (refl, (refl, (refl, (refl, (refl, (refl, (refl, tt)))))))))))))) n
 
-  back_passes : (jobs : Jobs) → AllFit (jobs_numbers jobs) → NoneApply (number_checks (line jobs) 17 (length (line jobs) - 16))
+  back_passes : (jobs : Jobs) → EachFits (jobs_numbers jobs) → NoneApply (number_checks (line jobs) 17 (length (line jobs) - 16))
   back_passes (Left k) j = numbers_pass (line (Left k)) 17 (k.job ∷ k.period ∷ []) (refl, (refl, tt)) j
   back_passes (Right k) j = numbers_pass (line (Right k)) 17 (k.job ∷ k.heavy ∷ k.among ∷ k.period ∷ []) (refl, (refl, (refl, (refl, tt)))) j
 
-  jobs_said : (jobs : Jobs) → AllFit (jobs_numbers jobs) → jobs_in (line jobs) (word_of (field 16 (line jobs))) ≡ jobs
+  jobs_said : (jobs : Jobs) → EachFits (jobs_numbers jobs) → jobs_in (line jobs) (word_of (field 16 (line jobs))) ≡ jobs
   jobs_said (Left k) j = λ i. Left (record { job = reads k.job j.0 i; period = reads k.period j.1.0 i })
   jobs_said (Right k) j = λ i. Right (record { job = reads k.job j.0 i; heavy = reads k.heavy j.1.0 i; among = reads k.among j.1.1.0 i; period = reads k.period j.1.1.1.0 i })
 
@@ -135,7 +135,7 @@ module _ (e : Entry) (w : Writable e) where
   said : NoneApply (text_checks (row_written e)) × (entry_of (row_written e) ≡ e)
   said =
       let same : with_parts e (firsts 8 e.row.sections) e.jobs ≡ e = ap (λ (ss : List ℕ). with_parts e ss e.jobs) (firsts_are 8 e.row.sections w.locks) in
-      subst SaidByLine same (eight_said e e.row.sections e.jobs) w.numbers w.jobs
+      subst SaidByLine same (eight_said e e.row.sections e.jobs) (each_fits (numbers_of e) w.numbers) (each_fits (jobs_numbers e.jobs) w.jobs)
 
   row_fields_are : fields (row_line e) ≡ row_written e
   row_fields_are = fields_are (codes "row") (row_parts e) row_word (row_parts_are e w).0
@@ -147,6 +147,6 @@ module _ (e : Entry) (w : Writable e) where
   pub row_passes : first (kind_checks e) ≡ 0 → first_blame (line_checks (fields (row_line e))) ≡ nothing
   row_passes z =
       ap (λ (fs : List (List ℕ)). first_blame (line_checks fs)) row_fields_are
-      ∙ none_front (text_checks (row_written e)) (blaming_none (kind_checks (entry_of (row_written e)))) said.0
-      ∙ ap (λ (f : Entry). first_blame (blaming_none (kind_checks f))) said.1
-      ∙ (first_of_none (kind_checks e) ∙ ap by z)
+      ∙ none_front (text_checks (row_written e)) (blames_by_number (kind_checks (entry_of (row_written e)))) said.0
+      ∙ ap (λ (f : Entry). first_blame (blames_by_number (kind_checks f))) said.1
+      ∙ (first_blame-blames_by_number (kind_checks e) ∙ ap by_number z)

@@ -1,7 +1,8 @@
 -- The lines of a plan file: which checks each meets, and what it says. Assumes nothing.
 -- How to read it: fs is a line, as the list of its fields, which count from 1. A check is a pair, whether it applies and what it blames; checks
 -- stand in lists, and the first that applies counts. For a clock line see `clock_checks` and `clock_of`, for a row line `line_checks` and `task_of`.
-use Rattle.std.specs.Prelude.{◌≡◌, ℕ, zero, suc, ◌+◌, ◌-◌, Bool, true, false, not, List, [], ◌∷◌, ◌++◌, map, length, Ok, Err, Result, ◌==◌, nat_lt}
+use Rattle.std.specs.Prelude.{◌≡◌, ℕ, zero, suc, ◌+◌, ◌-◌, Bool, true, false, not, ◌||◌, List, [], ◌∷◌, ◌++◌, map, length, Ok, Err, Result, ◌==◌, nat_lt}
+use Rattle.analysis.specs.declared.TheConstants.{LOCKS}
 use Rattle.analysis.specs.declared.Row.{Row}
 use Rattle.analysis.specs.declared.Task.{Task}
 use Rattle.analysis.specs.Ranks.{Claim}
@@ -21,8 +22,8 @@ use Rattle.demand.specs.declared.factor.Factor.{Factor}
 use Rattle.planfile.specs.declared.fault.FieldFault.{FieldFault}
 use Rattle.planfile.specs.declared.fault.LineFault.{LineFault}
 use Rattle.planfile.specs.declared.fault.Blame.{Blame}
-use Rattle.planfile.specs.Fault.{nothing, by, by_field, first_blame, field_number, line_blame}
-use Rattle.planfile.specs.Text.{field, word_of, is_number, value}
+use Rattle.planfile.specs.Fault.{nothing, by_number, by_field, first_blame, field_number, line_blame}
+use Rattle.planfile.specs.Text.{ends_with_newline, field, word_of, is_number, value}
 
 -- the word is the one that begins a clock line
 abbrev pub is_clock : Word → Bool
@@ -57,14 +58,14 @@ abbrev pub NumberRead : List ℕ → Result ℕ FieldFault → Type 0
 NumberRead f (Ok n) = (first (field_checks f) ≡ 0) × (n ≡ value f)
 NumberRead f (Err e) = first (field_checks f) ≡ field_number e
 
--- checks that blame field k
-abbrev pub blaming : ℕ → List (Bool × ℕ) → List (Bool × Blame)
-blaming k = map (λ check. (check.0, by_field check.1 k))
+-- these checks, where each blames field k
+abbrev pub blames_by_field : ℕ → List (Bool × ℕ) → List (Bool × Blame)
+blames_by_field k = map (λ check. (check.0, by_field check.1 k))
 
 -- the n fields from field k on are numbers, leftmost first
 abbrev pub number_checks : List (List ℕ) → ℕ → ℕ → List (Bool × Blame)
 number_checks fs k zero = []
-number_checks fs k (suc n) = blaming k (field_checks (field k fs)) ++ number_checks fs (k + 1) n
+number_checks fs k (suc n) = blames_by_field k (field_checks (field k fs)) ++ number_checks fs (k + 1) n
 
 -- the number in field k
 abbrev pub number_in : List (List ℕ) → ℕ → ℕ
@@ -75,9 +76,9 @@ abbrev pub numbers_in : List (List ℕ) → ℕ → ℕ → List ℕ
 numbers_in fs k zero = []
 numbers_in fs k (suc n) = number_in fs k ∷ numbers_in fs (k + 1) n
 
--- checks that blame no field
-abbrev pub blaming_none : List (Bool × ℕ) → List (Bool × Blame)
-blaming_none = map (λ check. (check.0, by check.1))
+-- these checks, where none blames a field
+abbrev pub blames_by_number : List (Bool × ℕ) → List (Bool × Blame)
+blames_by_number = map (λ check. (check.0, by_number check.1))
 
 -- the factor that a clock line gives
 abbrev pub clock_of : List (List ℕ) → Factor
@@ -87,8 +88,8 @@ clock_of fs = record { numerator = number_in fs 2; denominator = number_in fs 3 
 abbrev pub clock_checks : List (List ℕ) → List (Bool × Blame)
 clock_checks fs =
     (not (is_clock (word_of (field 1 fs))), by_field 17 1)
-    ∷ (not (length fs == 3), by 15)
-    ∷ (number_checks fs 2 2 ++ blaming_none (slowed_checks (number_in fs 2) (number_in fs 3)))
+    ∷ (not (length fs == 3), by_number 15)
+    ∷ (number_checks fs 2 2 ++ blames_by_number (slowed_checks (number_in fs 2) (number_in fs 3)))
 
 -- the jobs of a row
 abbrev pub Jobs : Type 0
@@ -99,7 +100,12 @@ abbrev pub jobs_in : List (List ℕ) → Word → Jobs
 jobs_in fs Clock = Left (record { job = 0; period = 0 })
 jobs_in fs RowWord = Left (record { job = 0; period = 0 })
 jobs_in fs Every = Left (record { job = number_in fs 17; period = number_in fs 18 })
-jobs_in fs Heavy = Right (record { job = number_in fs 17; heavy = number_in fs 18; among = number_in fs 19; period = number_in fs 20 })
+jobs_in fs Heavy = Right (record {
+  job = number_in fs 17;
+  heavy = number_in fs 18;
+  among = number_in fs 19;
+  period = number_in fs 20;
+})
 jobs_in fs Other = Left (record { job = 0; period = 0 })
 
 -- the row that a row line gives
@@ -110,7 +116,7 @@ row_of fs = record {
   suspension = number_in fs 4;
   suspensions = number_in fs 5;
   deadline = number_in fs 6;
-  sections = numbers_in fs 8 8;
+  sections = numbers_in fs 8 LOCKS;
 }
 
 -- what a row line has: a row, how late its jobs may come, and its jobs
@@ -123,12 +129,16 @@ pub record Entry : Type 0 where
 abbrev pub entry_of : List (List ℕ) → Entry
 entry_of fs = record { row = row_of fs; delay = number_in fs 7; jobs = jobs_in fs (word_of (field 16 fs)) }
 
+-- When a text is refused for its length or its end: it has more bytes than the limit, or is not ended by a newline.
+abbrev pub length_checks : ℕ → List ℕ → List (Bool × Blame)
+length_checks limit text = (nat_lt limit (length text) || not (ends_with_newline text), by_number 18) ∷ []
+
 -- When a row line is refused for how many fields it has, or for the word that names its kind, in this order.
 abbrev pub shape_checks : List (List ℕ) → List (Bool × Blame)
 shape_checks fs =
-    (nat_lt (length fs) 16, by 15)
+    (nat_lt (length fs) 16, by_number 15)
     ∷ ((fields_due (word_of (field 16 fs)) == 0), by_field 17 16)
-    ∷ (not (length fs == fields_due (word_of (field 16 fs))), by 15)
+    ∷ (not (length fs == fields_due (word_of (field 16 fs))), by_number 15)
     ∷ []
 
 -- When the text behind the first word of a row line is refused, in this order.
@@ -144,13 +154,21 @@ abbrev pub jobs_checks : Jobs → List (Bool × ℕ)
 jobs_checks (Left k) = every_checks k.job k.period
 jobs_checks (Right k) = heavy_checks k.job k.heavy k.among k.period
 
+-- When what stands behind the word that names a kind is refused, in this order.
+abbrev pub behind_word_checks : List (List ℕ) → Word → List (Bool × Blame)
+behind_word_checks fs word =
+    number_checks fs 17 (length fs - 16) ++ blames_by_number (jobs_checks (jobs_in fs word))
+
 -- When the kind of an entry is refused, in this order.
 abbrev pub kind_checks : Entry → List (Bool × ℕ)
 kind_checks e = jobs_checks e.jobs ++ delayed_checks e.delay (jobs_demand e.jobs)
 
 -- a row with the meaning of its kind: its jobs, each late by up to the delay, all slowed by the clock's factor
 abbrev pub claim_of : Factor → Entry → Claim
-claim_of clock e = record { row = e.row; demand = slowed_by clock.numerator clock.denominator (delayed_by e.delay (jobs_demand e.jobs)) }
+claim_of clock e = record {
+  row = e.row;
+  demand = slowed_by clock.numerator clock.denominator (delayed_by e.delay (jobs_demand e.jobs));
+}
 
 -- what a value of the code means: the kind of a row of a plan file
 abbrev pub row_demand : Slowed (Delayed Jobs) → Demand
@@ -163,12 +181,18 @@ Reads checks x (Err f) = first_blame checks ≡ line_blame f
 
 -- When what stands behind the first word of a row line is refused, before the row is held, in this order.
 abbrev pub row_checks : List (List ℕ) → List (Bool × Blame)
-row_checks fs = text_checks fs ++ blaming_none (kind_checks (entry_of fs))
+row_checks fs = text_checks fs ++ blames_by_number (kind_checks (entry_of fs))
 
 -- When a row line is refused before its row is held, in this order.
 abbrev pub line_checks : List (List ℕ) → List (Bool × Blame)
 line_checks fs = (not (is_row (word_of (field 1 fs))), by_field 17 1) ∷ row_checks fs
 
--- the row of a row line with its kind, but for the clock
-abbrev pub task_of : List (List ℕ) → Task (Delayed Jobs)
-task_of fs = record { row = row_of fs; kind = record { kind = (entry_of fs).jobs; delay = (entry_of fs).delay } }
+-- the row that a row line or a hold line gives, its kind slowed by the clock
+abbrev pub task_of : Factor → List (List ℕ) → Task (Slowed (Delayed Jobs))
+task_of clock fs = record {
+  row = row_of fs;
+  kind = record {
+    kind = record { kind = (entry_of fs).jobs; delay = (entry_of fs).delay };
+    factor = clock;
+  };
+}

@@ -1,7 +1,7 @@
 -- Figures worked out by hand: of the kinds, of a plan file of three rows, and of calls for its rows. Assumes nothing.
 -- How to read it: the file comes first, and all that is said of its rows is said of rows that its bytes give. Each field of `WorkedFigures` at the
 -- end is one claim.
-use Rattle.std.specs.Prelude.{◌≡◌, ℕ, List, [], ◌∷◌, ◌++◌, map, Ok, Err, codes, slice_index, slice_index_or}
+use Rattle.std.specs.Prelude.{◌≡◌, ℕ, List, [], ◌∷◌, ◌++◌, map, Ok, Err, codes, slice_index}
 use Rattle.analysis.specs.declared.Answer.{Answer}
 use Rattle.analysis.specs.Judge.{InTime}
 use Rattle.analysis.specs.Plans.{Bounds, Fixed}
@@ -12,11 +12,12 @@ use Rattle.either.specs.declared.Either.TheVariants.{Left}
 use Rattle.table.specs.declared.hold.Hold.{Hold}
 use Rattle.table.specs.declared.refusals.HoldRefusal.TheVariants.{Late}
 use Rattle.table.specs.Account.{Account, Holds, Withdraws, BoundsAnswered, with_row, with_withdrawn}
+use Rattle.planfile.specs.declared.TheConstants.{REPORT_MEMORY}
 use Rattle.planfile.specs.declared.fault.Blame.{Blame}
 use Rattle.planfile.specs.Checks.{Entry, clock_checks, line_checks}
-use Rattle.planfile.specs.Fault.{nothing, by, by_field, first_blame}
-use Rattle.planfile.specs.Laws.{factor_of, row_lines, rows_before, plan_text, SoundPlan}
-use Rattle.planfile.specs.Reading.{taking, claim_in, FileRead}
+use Rattle.planfile.specs.Fault.{nothing, by_number, by_field, first_blame}
+use Rattle.planfile.specs.Laws.{factor_of, row_fields, rows_before, plan_text, SoundPlan}
+use Rattle.planfile.specs.Reading.{account_with, claim_in, FileRead}
 use Rattle.planfile.specs.Report.{report, refusal_line}
 use Rattle.planfile.specs.Text.{lines, fields, value}
 
@@ -70,11 +71,11 @@ file_loads = loads (ranking file_rows)
 
 -- the account that keeps the meters and the card reader of such a file
 abbrev pub before_car : List ℕ → Account
-before_car text = taking (rows_before text 2)
+before_car text = account_with (rows_before text 2)
 
 -- the car of such a file
 abbrev pub car_in : List ℕ → Claim
-car_in text = claim_in (factor_of text) (fields (slice_index_or (row_lines text) 2 []))
+car_in text = claim_in (factor_of text) (row_fields text 2)
 
 -- its hold
 abbrev pub car_hold : Hold
@@ -90,7 +91,7 @@ CarLate text n = Holds (before_car text) (car_in text) (Err (Late n)) (before_ca
 
 -- the account that keeps the three rows of the worked garage
 abbrev pub all_kept : Account
-all_kept = taking file_rows
+all_kept = account_with file_rows
 
 -- and the one without the car
 abbrev pub car_gone : Account
@@ -117,7 +118,8 @@ entry_with number priority suspension suspensions deadline lock c t = record {
 
 -- the three rows, as a plan file is written from them
 abbrev pub garage_entries : List Entry
-garage_entries = entry_with 1 30 3 1 10 1 2 10 ∷ entry_with 2 20 0 0 15 0 3 16 ∷ entry_with 3 10 0 0 40 2 5 40 ∷ []
+garage_entries =
+    entry_with 1 30 3 1 10 1 2 10 ∷ entry_with 2 20 0 0 15 0 3 16 ∷ entry_with 3 10 0 0 40 2 5 40 ∷ []
 
 -- the bounds of the three ranks, the meters first
 abbrev pub garage_bounds : ℕ → ℕ
@@ -156,17 +158,17 @@ pub record TextFigures : Type 0 where
   -- a clock line of another word
   pub other_word : first_blame (clock_checks (fields (codes "Clock\t1\t1"))) ≡ by_field 17 1
   -- of too few fields
-  pub too_few : first_blame (clock_checks (fields (codes "clock\t1"))) ≡ by 15
+  pub too_few : first_blame (clock_checks (fields (codes "clock\t1"))) ≡ by_number 15
   -- of a field with another byte than digits
   pub no_digit : first_blame (clock_checks (fields (codes "clock\t1\t-1"))) ≡ by_field 16 3
   -- of a factor below 1
-  pub too_fast : first_blame (clock_checks (fields (codes "clock\t1\t2"))) ≡ by 4
+  pub too_fast : first_blame (clock_checks (fields (codes "clock\t1\t2"))) ≡ by_number 4
   -- one that passes
   pub passes : first_blame (clock_checks (fields (codes "clock\t3\t2"))) ≡ nothing
   -- an empty line in place of a row line
   pub no_row : first_blame (line_checks (fields [])) ≡ by_field 17 1
   -- a row line of too few fields
-  pub short_row : first_blame (line_checks (fields (codes "row\t1"))) ≡ by 15
+  pub short_row : first_blame (line_checks (fields (codes "row\t1"))) ≡ by_number 15
 
 -- what follows from the definitions for the kinds, for small texts, for the file of the worked garage, and for calls with its rows
 pub record WorkedFigures : Type 0 where
@@ -179,7 +181,7 @@ pub record WorkedFigures : Type 0 where
   -- they are rows that a plan file can have
   pub sound : SoundPlan even_clock garage_entries
   -- the file is read, with the least memory for its report, and gives its rows
-  pub read : FileRead garage_file 512 (Ok file_rows)
+  pub read : FileRead garage_file REPORT_MEMORY (Ok file_rows)
   -- highest first they are rows 1, 2 and 3
   pub ranks : map (λ l. l.claim.row.number) file_loads ≡ 1 ∷ 2 ∷ 3 ∷ []
   -- they are blocked for 4, 2 and 0
@@ -201,13 +203,13 @@ pub record WorkedFigures : Type 0 where
   -- the text of a refusal: in line 4, with row 3 late
   pub refused : refusal_line (car_refused 3) ≡ codes "refused\t4\t0\t11\t3\n"
   -- with deadline 13 for the car the file is refused by 11 in line 4, since row 3 would be late
-  pub car_13_refused : FileRead car_13 512 (Err (car_refused 3))
+  pub car_13_refused : FileRead car_13 REPORT_MEMORY (Err (car_refused 3))
   -- with 14 it is read, and gives its rows
-  pub car_14_read : FileRead car_14 512 (Ok (rows_in car_14))
+  pub car_14_read : FileRead car_14 REPORT_MEMORY (Ok (rows_in car_14))
   -- with deadline 8 for the meters it is refused by 11 in line 4, since row 1 would be late
-  pub meters_8_refused : FileRead meters_8 512 (Err (car_refused 1))
+  pub meters_8_refused : FileRead meters_8 REPORT_MEMORY (Err (car_refused 1))
   -- with 9 it is read, and gives its rows
-  pub meters_9_read : FileRead meters_9 512 (Ok (rows_in meters_9))
+  pub meters_9_read : FileRead meters_9 REPORT_MEMORY (Ok (rows_in meters_9))
   -- the same of calls: with deadline 13 the car is refused, and row 3 is named
   pub car_13_late : CarLate car_13 3
   -- with 14 it is accepted, and then held

@@ -7,11 +7,10 @@ use Rattle.table.specs.Account.{hold_late}
 use Rattle.runs.specs.declared.call.Reply.{Reply}
 use Rattle.runs.specs.declared.call.Reply.TheVariants.{Hold, Keep, Release, Withdraw, Bound}
 use Rattle.runs.specs.Calls.{reply_number}
-use Rattle.planfile.specs.declared.fault.Blame.{Blame}
 use Rattle.planfile.specs.declared.response.Response.{Response}
 use Rattle.planfile.specs.declared.response.Response.TheVariants.{Held, Kept, Released, Withdrawn, Bounded, Row, Refused}
-use Rattle.planfile.specs.Fault.{at_line}
-use Rattle.planfile.specs.Report.{line_of, number_fields, refusal_line}
+use Rattle.planfile.specs.declared.fault.Blame.{Blame}
+use Rattle.planfile.specs.Report.{line_of, number_fields}
 use Rattle.planfile.specs.Text.{newline, tab}
 
 -- whether a row is held or kept, in a word
@@ -22,7 +21,9 @@ standing_word false = codes "kept"
 -- the line of a row in a list of all: number, bound, vector, blocking, and how it stands
 abbrev pub row_response : Answer → Bool → List ℕ
 row_response a held =
-    codes "row" ++ (number_fields (a.number ∷ a.bound ∷ a.vector ∷ a.blocking ∷ []) ++ (tab ∷ standing_word held ++ newline ∷ []))
+    codes "row"
+    ++ (number_fields (a.number ∷ a.bound ∷ a.vector ∷ a.blocking ∷ [])
+    ++ (tab ∷ standing_word held ++ newline ∷ []))
 
 -- the text of a response
 abbrev pub response_line : Response → List ℕ
@@ -32,7 +33,7 @@ response_line (Released n) = line_of (codes "released") (n ∷ [])
 response_line (Withdrawn n) = line_of (codes "withdrawn") (n ∷ [])
 response_line (Bounded n bound vector) = line_of (codes "bound") (n ∷ bound ∷ vector ∷ [])
 response_line (Row a held) = row_response a held
-response_line (Refused k b) = refusal_line (at_line k b)
+response_line (Refused k field number late) = line_of (codes "refused") (k ∷ field ∷ number ∷ late ∷ [])
 
 -- the late row that a reply names, else 0
 abbrev pub reply_late : Reply → ℕ
@@ -43,19 +44,23 @@ reply_late (Release r) = 0
 reply_late (Withdraw r) = 0
 reply_late (Bound r) = 0
 
--- what a reply blames that is a refusal: no field
-abbrev pub reply_blame : Reply → Blame
-reply_blame r = record { number = reply_number r; line = 0; field = 0; late = reply_late r }
+-- the refusal of line k, with what is blamed but for its line
+abbrev pub refusal_of : ℕ → Blame → Response
+refusal_of k b = Refused k b.field b.number b.late
+
+-- the refusal of line k by a reply, which names no field
+abbrev pub reply_refusal : ℕ → Reply → Response
+reply_refusal k r = Refused k 0 (reply_number r) (reply_late r)
 
 -- what a reply comes to
 abbrev pub response_of : ℕ → ℕ → Reply → Response
 response_of k n (Hold (Ok u)) = Held n
-response_of k n (Hold (Err e)) = Refused k (reply_blame (Hold (Err e)))
+response_of k n (Hold (Err e)) = reply_refusal k (Hold (Err e))
 response_of k n (Keep (Ok u)) = Kept n
-response_of k n (Keep (Err e)) = Refused k (reply_blame (Keep (Err e)))
+response_of k n (Keep (Err e)) = reply_refusal k (Keep (Err e))
 response_of k n (Release (Ok u)) = Released n
-response_of k n (Release (Err e)) = Refused k (reply_blame (Release (Err e)))
+response_of k n (Release (Err e)) = reply_refusal k (Release (Err e))
 response_of k n (Withdraw (Ok u)) = Withdrawn n
-response_of k n (Withdraw (Err e)) = Refused k (reply_blame (Withdraw (Err e)))
+response_of k n (Withdraw (Err e)) = reply_refusal k (Withdraw (Err e))
 response_of k n (Bound (Ok p)) = Bounded n p.0 p.1
-response_of k n (Bound (Err e)) = Refused k (reply_blame (Bound (Err e)))
+response_of k n (Bound (Err e)) = reply_refusal k (Bound (Err e))

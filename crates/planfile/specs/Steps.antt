@@ -2,6 +2,7 @@
 -- How to read it: `at` is the place of the next byte. `Taking` is true before the reader takes it and `Taken` after, by the state that it is in.
 use Rattle.std.specs.Prelude.{◌≡◌, ℕ, ◌+◌, ◌≤◌, List, [], ◌∷◌, ◌++◌, length, map, take, drop}
 use Rattle.std.specs.List.{between}
+use Rattle.planfile.specs.declared.reader.TheConstants.{MOST_FIELDS}
 use Rattle.planfile.specs.declared.reader.Reader.{Reader}
 use Rattle.planfile.specs.declared.reader.State.{State}
 use Rattle.planfile.specs.declared.reader.State.TheVariants.{Field, Ended}
@@ -15,7 +16,7 @@ kept_fields r = map (λ f. f.now) r.kept.items
 pub record Kept (before : Reader) (field : List ℕ) (after : Reader) : Type 0 where
   pub text : after.text.now ≡ before.text.now
   pub state : after.state ≡ before.state
-  pub fields : kept_fields after ≡ take 20 (kept_fields before ++ field ∷ [])
+  pub fields : kept_fields after ≡ take MOST_FIELDS (kept_fields before ++ field ∷ [])
 
 -- Of the line that a text begins with, the bytes before `at` are taken. No newline is among them. They are cut into the fields before this index, of
 -- which the first twenty are kept, and the one that began at this start.
@@ -26,13 +27,13 @@ pub record InField (text : List ℕ) (at : ℕ) (kept : List (List ℕ)) (index 
   pub before : List (List ℕ)
   pub cut : fields (take at text) ≡ before ++ between start at text ∷ []
   pub size : length before ≡ index
-  pub first_twenty : kept ≡ take 20 before
+  pub first_twenty : kept ≡ take MOST_FIELDS before
 
 -- The first line of a text is ended by the newline at this place. It has so many fields, of which the first twenty are kept.
 pub record Behind (text : List ℕ) (at : ℕ) (kept : List (List ℕ)) (count : ℕ) : Type 0 where
   pub first : lines text ≡ take at text ∷ lines (drop (at + 1) text)
   pub size : count ≡ length (fields (take at text))
-  pub first_twenty : kept ≡ take 20 (fields (take at text))
+  pub first_twenty : kept ≡ take MOST_FIELDS (fields (take at text))
 
 -- the reader is in a field of the first line of a text
 abbrev pub Taking : List ℕ → ℕ → List (List ℕ) → State → Type 0

@@ -1,8 +1,9 @@
 -- Lines, fields, words and numbers of a text, which is a list of bytes. Assumes nothing.
 -- How to read it: bytes are numbers, so 9 is a tab, 10 a newline, and 48 to 57 are the digits. FORMATS.md says the same in words.
-use Rattle.std.specs.Prelude.{ℕ, ◌+◌, ◌-◌, ◌*◌, Bool, true, cond, ◌&&◌, List, [], ◌∷◌, length, take, codes, ◌==◌, nat_le, nat_lt, slice_index, slice_index_or}
+use Rattle.std.specs.Prelude.{◌≡◌, ℕ, ◌+◌, ◌-◌, ◌*◌, ◌^◌, ◌<◌, ◌≤◌, ◌⊎◌, Bool, true, false, if◌then◌else◌, ◌&&◌, Option, Some, None, List, [], length, take, fold, codes, ◌==◌, nat_le, nat_lt, slice_index, slice_index_or}
 use Rattle.std.specs.Cmp.Lexicographic.{pointwise}
 use Rattle.std.specs.List.{slice_split}
+use Rattle.std.specs.Str.{all_ascii_digits}
 use Rattle.planfile.specs.declared.word.Word.{Word}
 use Rattle.planfile.specs.declared.word.Word.TheVariants.{Clock, Row, Every, Heavy, Other}
 
@@ -27,8 +28,8 @@ abbrev pub fields : List ℕ → List (List ℕ)
 fields line = parted_by tab line
 
 -- the last byte is a newline
-abbrev pub ended : List ℕ → Bool
-ended text = slice_index text (length text - 1) == newline
+abbrev pub ends_with_newline : List ℕ → Bool
+ends_with_newline text = slice_index text (length text - 1) == newline
 
 -- the field with this number, counted from 1; empty where there is none
 abbrev pub field : ℕ → List (List ℕ) → List ℕ
@@ -37,29 +38,37 @@ field k fs = slice_index_or fs (k - 1) []
 -- which word a field is
 abbrev pub word_of : List ℕ → Word
 word_of f =
-    cond (pointwise ◌==◌ f (codes "clock")) Clock
-    (cond (pointwise ◌==◌ f (codes "row")) Row
-    (cond (pointwise ◌==◌ f (codes "every")) Every
-    (cond (pointwise ◌==◌ f (codes "heavy")) Heavy Other)))
+    if pointwise ◌==◌ f (codes "clock") then Clock
+    else if pointwise ◌==◌ f (codes "row") then Row
+    else if pointwise ◌==◌ f (codes "every") then Every
+    else if pointwise ◌==◌ f (codes "heavy") then Heavy
+    else Other
 
--- a byte is one of the digits 0 to 9
-abbrev pub is_digit : ℕ → Bool
-is_digit b = nat_le 48 b && nat_le b 57
-
--- all bytes are digits
-abbrev pub all_digits : List ℕ → Bool
-all_digits [] = true
-all_digits (b ∷ bs) = is_digit b && all_digits bs
+-- a number with one more digit, in base ten
+abbrev pub with_digit : ℕ → ℕ → ℕ
+with_digit n b = n * 10 + (b - 48)
 
 -- the number that digits write in base ten, behind those of n
 abbrev pub value_after : ℕ → List ℕ → ℕ
-value_after n [] = n
-value_after n (b ∷ bs) = value_after (n * 10 + (b - 48)) bs
+value_after = fold with_digit
 
 -- the number that digits write in base ten
 abbrev pub value : List ℕ → ℕ
 value = value_after 0
 
+-- the largest number that a field can write
+abbrev pub largest_number : ℕ
+largest_number = 4_294_967_295
+
 -- a field is a number: one digit or more, and not above 4,294,967,295
 abbrev pub is_number : List ℕ → Bool
-is_number f = nat_lt 0 (length f) && (all_digits f && nat_le (value f) 4_294_967_295)
+is_number f = nat_lt 0 (length f) && (all_ascii_digits f && nat_le (value f) largest_number)
+
+-- Bytes are put behind a number as its next digits: the number then, or none where a byte is no digit or the number gets too large.
+abbrev pub DigitsPushed : ℕ → List ℕ → Option ℕ → Type 0
+DigitsPushed n bs None = (all_ascii_digits bs ≡ false) ⊎ (2 ^ 32 ≤ value_after n bs)
+DigitsPushed n bs (Some m) = (all_ascii_digits bs ≡ true) × (m ≡ value_after n bs) × (m < 2 ^ 32)
+
+-- the field is not written with zeros in front: one that begins with 0 (byte 48) is 0
+abbrev pub HasNoLeadingZero : List ℕ → Type 0
+HasNoLeadingZero f = slice_index f 0 ≡ 48 → length f ≡ 1

@@ -2,10 +2,10 @@
 ghost use Rattle.std.specs.Prelude.{◌≡◌, ◌+◌, ◌<◌, ◌≤◌, true, List, [], length, IfOk, Ok, Err, MatchResult};
 ghost use Rattle.analysis.specs.Ranks.{Claim};
 ghost use Rattle.table.specs.Agreement.{AgreesWith};
-ghost use Rattle.planfile.specs.Text.{ended};
-ghost use Rattle.planfile.specs.Fault.{blame, nothing, first_blame};
+ghost use Rattle.planfile.specs.Text.{ends_with_newline};
+ghost use Rattle.planfile.specs.Fault.{blame, nothing};
 ghost use Rattle.planfile.specs.Checks.{row_demand};
-ghost use Rattle.planfile.specs.Reading.{taking, file_checks, LinesRead, RowsKept};
+ghost use Rattle.planfile.specs.Reading.{account_with, file_blame, LinesRead, RowsKept};
 ghost use Rattle.planfile.specs.Loading.{Loaded, AnsweredText};
 ghost use Rattle.planfile.specs.Laws.{InFileOrder, OneAnswer, RoundTrip};
 
@@ -19,7 +19,9 @@ use table::MOST_ROWS;
 
 // Checks what can be said before a line is read.
 fn check_file(file: &[u8], room: usize) -> Result<(), Fault>
-    ensures { MatchResult result (λ _. first_blame (file_checks file.now room) ≡ nothing) (λ f. first_blame (file_checks file.now room) ≡ blame f) }
+    ensures { MatchResult result
+        (λ _. file_blame file.now room ≡ nothing)
+        (λ f. file_blame file.now room ≡ blame f) }
 {
     if room < REPORT_MEMORY {
         return Err(Fault::ReportMemory);
@@ -30,10 +32,9 @@ fn check_file(file: &[u8], room: usize) -> Result<(), Fault>
     Ok(())
 }
 
-// The number of the row line of this index. Line 1 is the clock line. What is proved of the lines goes by their index, so
-// numbers that are counted beside them would be no plainer.
+// The number of the row line of this index. Line 1 is the clock line.
 fn number_of_row(index: usize) -> u32
-    requires { index < 4096 }
+    requires { index < LONGEST_FILE }
     ensures { result ≡ index + 2 }
 {
     index as u32 + 2
@@ -41,11 +42,12 @@ fn number_of_row(index: usize) -> u32
 
 // Takes the rows of a file into a table, in the order of the file. The answers are those of all rows.
 fn take_lines(file: &[u8], register: &mut Register<RowKind>) -> Result<Answers, Fault>
-    requires short { length file.now ≤ 4096 }
-    requires ended { ended file.now ≡ true }
-    requires empty { AgreesWith row_demand (taking []) register.old.table }
+    requires short { length file.now ≤ LONGEST_FILE }
+    requires ended { ends_with_newline file.now ≡ true }
+    requires empty { AgreesWith row_demand (account_with []) register.old.table }
     ensures { MatchResult result
-        (λ all. (rows : List Claim) × LinesRead file.now (Ok rows)
+        (λ all. (rows : List Claim)
+        × LinesRead file.now (Ok rows)
         × RowsKept rows register.new.table all)
         (λ f. LinesRead file.now (Err (blame f))) }
 {
@@ -61,7 +63,11 @@ fn take_lines(file: &[u8], register: &mut Register<RowKind>) -> Result<Answers, 
     Ok(answers)
 }
 
-// Reads a plan file, and writes its report at the start of the memory lent for it. The answer is the length of the report.
+/// Reads a plan file, and writes its report at the start of the memory lent for it. The answer is the length of the report.
+///
+/// The report has a line for each row, highest first: its number, its bound in ticks, the vector that gives it, its blocking in
+/// ticks. An `Err` is the first fault of the file, from the front, and memory is as it was then. What stands behind a report
+/// stays.
 #[tactic(auto, using(crate::proofs::Loads::by_file, crate::proofs::Loads::by_lines, crate::proofs::FileOrder::in_file_order, crate::proofs::OneAnswer::one_answer, crate::proofs::RoundTrip::round_trip))]
 pub fn load(file: &[u8], report: &mut [u8]) -> Result<usize, Fault>
     ensures loaded { Loaded file.now report.old result report.new }
@@ -76,7 +82,8 @@ pub fn load(file: &[u8], report: &mut [u8]) -> Result<usize, Fault>
     Ok(write_report(answers.rows(), report))
 }
 
-// Writes the text that answers a plan file, which is its report or the line of its refusal, and answers the length of the text.
+/// Writes the text that answers a plan file at the start of memory, which is its report or the line of its refusal, and answers
+/// the length of the text. The only `Err` is [`Fault::ReportMemory`]; memory is as it was then.
 #[tactic(auto, using(crate::proofs::Answering::answered_ok, crate::proofs::Answering::answered_err, crate::proofs::Answering::answer_within))]
 pub fn answer(file: &[u8], out: &mut [u8]) -> Result<usize, Fault>
     ensures text { AnsweredText file.now out.old result out.new }

@@ -18,13 +18,15 @@ pub(crate) struct Line<'a> {
 
 impl<'a> Model for Line<'a> {
     ghost use Rattle.std.specs.Prelude.{◌≡◌, ℕ, List, length, take, map};
+    ghost use Rattle.planfile.specs.declared.reader.TheConstants.{MOST_FIELDS};
     ghost use Rattle.planfile.specs.Text.{fields};
 
     ghost Value = { List (List ℕ) };
 
     ghost view = { λ l. fields l.text.now };
 
-    ghost invariant = { λ l. (l.count ≡ length (fields l.text.now)) × (map (λ f. f.now) l.kept.items ≡ take 20 (fields l.text.now)) };
+    ghost invariant = { λ l. (l.count ≡ length (fields l.text.now))
+        × (map (λ f. f.now) l.kept.items ≡ take MOST_FIELDS (fields l.text.now)) };
 }
 
 // Where the reader stands in the line at hand. It is matched with the next byte in one match and changed in place, so each

@@ -1,35 +1,35 @@
 // The lines of a log of calls: from their bytes to what each asks.
 ghost use Rattle.std.specs.Prelude.{◌≤◌, IfOk};
-ghost use Rattle.planfile.specs.Checks.{clock_of, number_in, row_checks, Reads};
+ghost use Rattle.planfile.specs.Checks.{clock_of, number_in, Reads};
 ghost use Rattle.planfile.specs.Cut.{Keeps};
 ghost use Rattle.planfile.specs.Reading.{first_fields};
-ghost use Rattle.planfile.specs.Requests.{clock_line_checks, count_checks, end_checks, limit_checks, opening_checks, opening_of, RequestRead, single_checks, table_checks, task_in};
+ghost use Rattle.planfile.specs.Requests.{clock_line_checks, count_checks, end_checks, limit_checks, opening_checks, opening_of, RequestRead, hold_in, single_checks, table_checks};
 
 use super::reader::{Line, Reader};
 use super::row::{RowKind, number_at, read_clock, read_row};
 use super::word::{Verb, read_verb};
 use super::{LONGEST_LINE, LineFault};
-use analysis::{MOST_ROWS, Task};
-use demand::{Factor, Slowed};
+use analysis::MOST_ROWS;
+use demand::Factor;
 use runs::{Call, HoldId};
 
 /// The table that a table line asks for.
 #[derive(Clone, Copy, PartialEq, Eq, Debug)]
 pub struct Opening {
-    /// The table's number.
+    /// The table's number, 0 to 255.
     pub number: u8,
-    /// How many places it is to have, 12 at most.
+    /// How many places it is to have, 0 to [`MOST_ROWS`](analysis::MOST_ROWS).
     pub places: usize,
 }
 
-/// What a line of an evening asks.
-#[derive(Drop)]
+/// What a line of an evening asks. An evening is what a log has from one table line to the next.
+#[derive(Debug, PartialEq, Eq, Drop)]
 pub enum Request {
-    /// The evening is over. What else the line says, as a table line, `read_opening` reads.
+    /// The evening is over: the line begins with the word of a table line, and [`read_opening`] reads what else it says.
     Table,
     /// A call on the table.
     Call(Call<RowKind>),
-    /// What stands in the table.
+    /// The bounds of all rows that stand in the table.
     Rows,
 }
 
@@ -86,7 +86,7 @@ fn read_number_behind(line: &Line) -> Result<u32, LineFault>
 // The table of a table line, by the numbers behind its first word.
 fn read_table(line: &Line) -> Result<Opening, LineFault>
     ensures table { Reads (table_checks line.now) (opening_of line.now) result }
-    ensures few { IfOk result (λ table. table.places ≤ 12) }
+    ensures few { IfOk result (λ table. table.places ≤ MOST_ROWS) }
 {
     check_count(line, 3)?;
     let number = number_up_to(line, 2, u32::from(u8::MAX))? as u8;
@@ -94,23 +94,20 @@ fn read_table(line: &Line) -> Result<Opening, LineFault>
     Ok(Opening { number, places })
 }
 
-// The row of a hold line.
-fn read_task(line: &Line, clock: Factor) -> Result<Task<RowKind>, LineFault>
-    ensures { Reads (row_checks line.now) (task_in clock line.now) result }
+// The hold of this table that a line names.
+fn read_hold(line: &Line, table: u8) -> Result<HoldId, LineFault>
+    ensures { Reads (single_checks line.now) (hold_in table line.now) result }
 {
-    let Task { row, kind } = read_row(line)?;
-    let kind = Slowed {
-        kind,
-        factor: clock,
-    };
-    Ok(Task { row, kind })
+    let row = read_number_behind(line)?;
+    Ok(HoldId { table, row })
 }
 
-/// Reads a line that has to be a table line, with its newline; what follows the newline is not looked at. The codes of a
-/// refusal are 15 to 18.
+/// Reads a line that has to be a table line, with its newline; what follows the newline is not looked at. An `Err` is the first
+/// check that applies: 18 for the length or the newline of the line, 17 for its word, 15 for the number of its fields, 16 for a
+/// number.
 pub fn read_opening(text: &[u8]) -> Result<Opening, LineFault>
     ensures table { Reads (opening_checks text.now) (opening_of (first_fields text.now)) result }
-    ensures few { IfOk result (λ table. table.places ≤ 12) }
+    ensures few { IfOk result (λ table. table.places ≤ MOST_ROWS) }
 {
     let line = cut(text)?;
     let Verb::Table = read_verb(line.first()) else {
@@ -119,8 +116,9 @@ pub fn read_opening(text: &[u8]) -> Result<Opening, LineFault>
     read_table(&line)
 }
 
-/// Reads a line that has to be a clock line, with its newline; what follows the newline is not looked at. The codes of a
-/// refusal are 4 and 15 to 18.
+/// Reads a line that has to be a clock line, with its newline; what follows the newline is not looked at. The answer is the
+/// factor by which all jobs are slowed. An `Err` is the first check that applies: 18, 17, 15 or 16 as for a table line, or 4 for
+/// a factor that no clock can have.
 pub fn read_clock_line(text: &[u8]) -> Result<Factor, LineFault>
     ensures { Reads (clock_line_checks text.now) (clock_of (first_fields text.now)) result }
 {
@@ -128,7 +126,8 @@ pub fn read_clock_line(text: &[u8]) -> Result<Factor, LineFault>
 }
 
 /// Reads a line of an evening, with its newline: what it asks of the table of this number, whose clock has this factor. What
-/// follows the newline is not looked at. The codes of a refusal are 1 to 3 and 15 to 18.
+/// follows the newline is not looked at. An `Err` is the first check that applies: 18, 17, 15 or 16 as for a table line, or 1 to
+/// 3 for the kind of a row. Whether the table accepts the call is not looked at.
 pub fn read_request(text: &[u8], clock: Factor, table: u8) -> Result<Request, LineFault>
     ensures { RequestRead clock table text.now result }
 {
@@ -139,15 +138,9 @@ pub fn read_request(text: &[u8], clock: Factor, table: u8) -> Result<Request, Li
             check_count(&line, 1)?;
             return Ok(Request::Rows);
         }
-        Verb::Hold => Call::Hold(read_task(&line, clock)?),
-        Verb::Keep => Call::Keep(HoldId {
-            table,
-            row: read_number_behind(&line)?,
-        }),
-        Verb::Release => Call::Release(HoldId {
-            table,
-            row: read_number_behind(&line)?,
-        }),
+        Verb::Hold => Call::Hold(read_row(&line, clock)?),
+        Verb::Keep => Call::Keep(read_hold(&line, table)?),
+        Verb::Release => Call::Release(read_hold(&line, table)?),
         Verb::Withdraw => Call::Withdraw(read_number_behind(&line)?),
         Verb::Bound => Call::Bound(read_number_behind(&line)?),
         Verb::Other => return Err(LineFault::Word(1)),

@@ -1,25 +1,24 @@
 // Clock lines and row lines, from fields to a clock and to rows of a table.
-ghost use Rattle.std.specs.Prelude.{◌≡◌, ◌-◌, ◌<◌, ◌≤◌, List, ◌∷◌, ◌++◌, length, MatchResult};
+ghost use Rattle.std.specs.Prelude.{◌≡◌, ◌<◌, ◌≤◌, List, length};
 ghost use Rattle.analysis.specs.Ranks.{Claim};
 ghost use Rattle.table.specs.Agreement.{AgreesWith};
 ghost use Rattle.planfile.specs.Text.{field, word_of};
-ghost use Rattle.planfile.specs.Fault.{line_blame};
-ghost use Rattle.planfile.specs.Checks.{clock_checks, clock_of, shape_checks, number_checks, number_in, numbers_in, fields_due, row_of, jobs_in, jobs_checks, blaming_none, line_checks, row_checks, task_of, row_demand, Reads};
-ghost use Rattle.planfile.specs.Reading.{taking, claim_in, RowTaken, RowRefused, RowsKept};
+ghost use Rattle.planfile.specs.Checks.{clock_checks, clock_of, shape_checks, number_checks, number_in, numbers_in, fields_due, row_of, jobs_in, behind_word_checks, line_checks, row_checks, task_of, row_demand, Reads};
+ghost use Rattle.planfile.specs.Reading.{account_with, RowLineAnswered};
 ghost use Rattle.planfile.specs.Cut.{Keeps};
 
 use super::LineFault;
 use super::number::read_number;
 use super::reader::Line;
 use super::word::{Word, read_word};
-use analysis::{Answers, Row, Task};
+use analysis::{Answers, LOCKS, Row, Task};
 use demand::{Delayed, Either, Every, Factor, Heavy, Left, Right, Slowed};
 use runs::Register;
 
 // The jobs of a row.
 type Jobs = Either<Every, Heavy>;
 
-/// The kind of a row: its jobs, delayed, and slowed by the clock.
+/// The kind of a row of a plan file: its jobs, each late by up to the delay, and all slowed by the clock's factor.
 pub type RowKind = Slowed<Delayed<Jobs>>;
 
 // The number in the field of this index, from 1, or the fault that names the field.
@@ -82,7 +81,7 @@ fn read_plain(line: &Line) -> Result<(Row, u32), LineFault>
     ensures { Reads (number_checks line.now 2 14) (row_of line.now, number_in line.now 7) result }
 {
     let [number, priority, suspension, suspensions, deadline, delay] = read_numbers::<6>(line, 2)?;
-    let sections = read_numbers::<8>(line, 8)?;
+    let sections = read_numbers::<LOCKS>(line, 8)?;
     let row = Row {
         number,
         priority,
@@ -99,7 +98,7 @@ fn read_plain(line: &Line) -> Result<(Row, u32), LineFault>
 fn read_jobs(line: &Line, kind: Word) -> Result<Jobs, LineFault>
     requires named { 0 < fields_due kind }
     requires due { length line.now ≡ fields_due kind }
-    ensures { Reads (number_checks line.now 17 (length line.now - 16) ++ blaming_none (jobs_checks (jobs_in line.now kind))) (jobs_in line.now kind) result }
+    ensures { Reads (behind_word_checks line.now kind) (jobs_in line.now kind) result }
 {
     match kind {
         Word::Heavy => {
@@ -113,25 +112,29 @@ fn read_jobs(line: &Line, kind: Word) -> Result<Jobs, LineFault>
     }
 }
 
-// What stands behind the first word of a row line: the row, with its kind but for the clock.
-pub(crate) fn read_row(line: &Line) -> Result<Task<Delayed<Jobs>>, LineFault>
-    ensures { Reads (row_checks line.now) (task_of line.now) result }
+// What stands behind the first word of a row line: the row, with its kind, which the clock slows.
+pub(crate) fn read_row(line: &Line, clock: Factor) -> Result<Task<RowKind>, LineFault>
+    ensures { Reads (row_checks line.now) (task_of clock line.now) result }
 {
     let word = check_shape(line)?;
     let (row, delay) = read_plain(line)?;
     let jobs = read_jobs(line, word)?;
     let kind = Delayed::new(jobs, delay)?;
+    let kind = Slowed {
+        kind,
+        factor: clock,
+    };
     Ok(Task { row, kind })
 }
 
-// The row of a row line, with its kind but for the clock.
-fn read_row_line(line: &Line) -> Result<Task<Delayed<Jobs>>, LineFault>
-    ensures { Reads (line_checks line.now) (task_of line.now) result }
+// The row of a row line, with its kind, which the clock slows.
+fn read_row_line(line: &Line, clock: Factor) -> Result<Task<RowKind>, LineFault>
+    ensures { Reads (line_checks line.now) (task_of clock line.now) result }
 {
     let Word::Row = read_word(line.first()) else {
         return Err(LineFault::Word(1));
     };
-    read_row(line)
+    read_row(line, clock)
 }
 
 // Takes in the row of a row line. The answers are those of all rows in the table then.
@@ -140,16 +143,9 @@ pub(crate) fn take_row(
     clock: Factor,
     register: &mut Register<RowKind>,
 ) -> Result<Answers, LineFault>
-    ensures { (rows : List Claim) → AgreesWith row_demand (taking rows) register.old.table
-        → MatchResult result
-        (λ all. RowTaken clock rows line.now
-        × RowsKept (claim_in clock line.now ∷ rows) register.new.table all)
-        (λ f. RowRefused clock rows line.now (line_blame f)) }
+    ensures { (rows : List Claim) → AgreesWith row_demand (account_with rows) register.old.table
+        → RowLineAnswered clock rows line.now result register.new.table }
 {
-    let Task { row, kind } = read_row_line(line)?;
-    let kind = Slowed {
-        kind,
-        factor: clock,
-    };
+    let Task { row, kind } = read_row_line(line, clock)?;
     Ok(register.take_in(row, kind)?)
 }

@@ -50,7 +50,7 @@ fn push_row(text: &mut Text, answer: &Answer)
 
 // The report of these answers.
 fn report_text(answers: &[Answer]) -> Text
-    requires { length (report answers.now) ≤ 512 }
+    requires { length (report answers.now) ≤ REPORT_MEMORY }
     ensures { result.bytes ≡ report answers.now }
 {
     let mut text = Text::new();
@@ -72,14 +72,15 @@ fn write_text(text: &Text, out: &mut [u8]) -> usize
 
 // Writes the report of these answers at the start of memory, and answers its length.
 pub(crate) fn write_report(answers: &[Answer], out: &mut [u8]) -> usize
-    requires fits { length (report answers.now) ≤ 512 }
-    requires room { 512 ≤ length out.old }
+    requires fits { length (report answers.now) ≤ REPORT_MEMORY }
+    requires room { REPORT_MEMORY ≤ length out.old }
     ensures { Wrote out.old 0 (report answers.now) result out.new }
 {
     write_text(&report_text(answers), out)
 }
 
-// Writes the line of a refusal at the start of memory, and answers its length.
+/// Writes the line of a refusal at the start of memory, and answers its length: line, field, number of the check, late row. What
+/// stood behind the line stays. An `Err` says that memory has fewer than [`REPORT_MEMORY`] bytes, check 19; then it is as it was.
 pub fn write_refusal(fault: Fault, out: &mut [u8]) -> Result<usize, Fault>
     ensures { RefusalWritten (blame fault) out.old result out.new }
 {

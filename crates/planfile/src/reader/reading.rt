@@ -25,7 +25,7 @@ impl<'a> Reader<'a> {
         let _ = self.kept.try_push(field);
     }
 
-    // Takes a byte, which stands at this place. One match on state and byte is one of the forms in docs/DECISIONS.md.
+    // Takes a byte, which stands at this place.
     fn step(&mut self, at: usize, byte: u8)
         requires inside { at < length self.old.text.now }
         requires byte { byte ≡ slice_index self.old.text.now at }

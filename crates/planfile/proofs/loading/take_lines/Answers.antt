@@ -1,5 +1,5 @@
 -- The first line is the clock line, and each turn of the loop takes the next row line.
-use Rattle.std.proofs.Common.{◌≡◌, ◌+◌, ◌<◌, [], ◌∷◌, map, length, get_or, Ok, Err, sym, ap, ◌∙◌, subst, inl, arith, rules}
+use Rattle.std.proofs.Common.{◌≡◌, ◌+◌, ◌<◌, [], ◌∷◌, map, length, slice_index_or, Ok, Err, sym, ap, ◌∙◌, subst, inl, arith, rules}
 use Rattle.std.proofs.lemmas.Result.{err_from_is_err_and, MatchResult-at_ok, MatchResult-at_err}
 use Rattle.std.proofs.lemmas.Iterator.Consumers.{YieldsList-turn, YieldsList-end}
 use Rattle.std.proofs.lemmas.List.{length-map, length_push}
@@ -8,7 +8,7 @@ use Rattle.planfile.specs.Cut.{lines_left}
 use Rattle.planfile.specs.declared.fault.Fault.TheVariants.{Line}
 use Rattle.planfile.specs.Fault.{blame, at_line, line_blame}
 use Rattle.planfile.specs.Laws.{row_lines}
-use Rattle.planfile.specs.Reading.{claim_in, taking, LinesRead}
+use Rattle.planfile.specs.Reading.{claim_in, account_with, LinesRead}
 use Rattle.planfile.specs.Text.{lines, fields}
 use Rattle.planfile.proofs.Parted.{ended_line}
 use Rattle.planfile.proofs.LinesRead.{first_line, some_first, few_rows, row_road, row_count, line_at, clock_taken, row_refused, row_taken, no_lines, value_of_line, fault_of_line}
@@ -30,10 +30,10 @@ pub loop-index-init : goal.loop-index-init
 loop-index-init c =
     let first = first_line c.args.file.now c.new-reader.result c.next.new.self _ _ c.new-reader.ensures c.next.ensures.steps c.unwrap-first.ensures in
     let read = rw (value_of_line c.read_clock.result c.map_err.result _ c.map_err.ensures.cases c.in_ok-clock.clock c.in_ok-clock.was, first.0) at c.read_clock.ensures in
-    ([], record { agrees = c.requires.empty; answered = c.answers-answers.ensures.account (taking []) c.requires.empty }, λ r more. clock_taken c.args.file.now c.in_ok-clock.clock r read.0 read.1 more)
+    ([], record { agrees = c.requires.empty; answered = c.answers-answers.ensures.account (account_with []) c.requires.empty }, λ r more. clock_taken c.args.file.now c.in_ok-clock.clock r read.0 read.1 more)
 
 -- the row line at hand
-here : (c : In-Some) → (length c.loop-index.yielded < length (row_lines c.args.file.now)) × (c.in-Some.index ≡ length c.loop-index.yielded) × (c.in-Some.line ≡ fields (get_or (row_lines c.args.file.now) (length c.loop-index.yielded) []))
+here : (c : In-Some) → (length c.loop-index.yielded < length (row_lines c.args.file.now)) × (c.in-Some.index ≡ length c.loop-index.yielded) × (c.in-Some.line ≡ fields (slice_index_or (row_lines c.args.file.now) (length c.loop-index.yielded) []))
 here c =
     let from = c.enumerate-index-items.ensures in
     let road = row_road c.args.file.now c.new-reader.result c.next.new.self _ _ c.new-reader.ensures c.next.ensures.steps c.unwrap-first.ensures _ _ from.source from.count c.into_iter-index-iterator.ensures.into_iter_gives in
