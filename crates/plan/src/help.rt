@@ -1,14 +1,19 @@
 // What `plan --help` prints.
 pub(crate) const HELP: &str = "\
-plan: reads a plan file on standard input, and prints its report or its refusal
+plan: reads plan files, and prints the report of each, or its refusal
+
+    plan [FILE ..]
+
+The answer to each file stands behind a line with the file's name. With no file one is read from standard
+input, and its answer stands alone.
 
 A plan file says how fast a cabinet's clock is and which tasks it has, a row for each. The report has
 upper bounds for the response times of all rows. A file is refused where it is not well formed, where a
 number is out of range, and where some row would be late. Times are in ticks of 100 microseconds.
 
 A file has at most 4,096 bytes. A newline ends each line, and one tab parts two fields. Numbers are
-digits in base ten, and leading zeros are fine. The first line is the clock line. The rows follow, twelve
-at most:
+digits in base ten, up to 4,294,967,295, and leading zeros are fine. The first line is the clock line. The
+rows follow, twelve at most:
 
     clock a b
     row number priority S X D J L0 L1 L2 L3 L4 L5 L6 L7 every C T
@@ -41,12 +46,15 @@ Checks:
     10  a thirteenth row
     11  with this row some row is late; the first late one is named
     15  a line has too few fields or too many
-    16  a field is not a number, or is above 4,294,967,295
+    16  a field is not a number
     17  a field is not the word that is due there
     18  the file is above 4,096 bytes, or does not end with a newline
 
-Exit status: 0 for a report and for a refusal, 1 if reading or writing fails or for an unknown argument.
-Scripts tell a refusal by its first word, refused. A file with no rows has an empty report.
+Exit status: 0 where every file has its report, 1 where one is refused, 2 where one cannot be read, an
+answer cannot be written, or an argument is unknown; 2 goes before 1. A file that cannot be read is told on
+standard error, and the others are answered still. A file with no rows has an empty report.
+
+An argument that begins with - is unknown, but for --help; behind -- each is the name of a file.
 
 Example. Meters, a card reader and a car, where meters and car share lock 0:
 
