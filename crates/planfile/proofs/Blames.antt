@@ -3,8 +3,8 @@ use Rattle.std.proofs.Common.{◌≡◌, ℕ, zero, suc, ◌+◌, ◌-◌, ◌<�
 use borrow.Author.Tests.{eqb-false, not-false}
 use Rattle.std.specs.List.{AllByRecursion}
 use Rattle.std.proofs.lemmas.Bool.{cond-false}
-use Rattle.demand.specs.declared.KindRefusal.{KindRefusal}
-use Rattle.demand.specs.declared.KindRefusal.TheVariants.{Job, Period, Delay, Speed}
+use Rattle.demand.specs.declared.refusal.KindRefusal.{KindRefusal}
+use Rattle.demand.specs.declared.refusal.KindRefusal.TheVariants.{Job, Period, Delay, Speed}
 use Rattle.demand.specs.Refusals.{first, refusal_number}
 use Rattle.demand.proofs.FirstOf.{EachSays, first_of-map, first_of-front, first_of-behind}
 use Rattle.table.specs.declared.refusals.HoldRefusal.{HoldRefusal}
