@@ -1,7 +1,7 @@
 -- A table over places that were just emptied. Assumes nothing.
 use Rattle.std.proofs.Common.{◌≡◌, ℕ, zero, suc, ◌<◌, min, List, [], ◌∷◌, ◌++◌, length, get_or, take, drop, Some, None, Option, sym, refl, ◌∙◌, subst, subst₂, arith}
 use native.Mathlib.Decide.{dec_lt}
-use Rattle.std.specs.List.{FoldsTo}
+use Rattle.std.specs.Prelude.{All}
 use Rattle.std.proofs.lemmas.List.{length-append, length-drop, get_or_append_left, get_or_past, get_or-take, get_or-replicate}
 use Rattle.std.proofs.lemmas.Slice.{drop-append-drop}
 use Rattle.demand.specs.Demand.{Demand}
@@ -15,13 +15,7 @@ use Rattle.table.specs.Agreement.{StandsAt, Agrees}
 use Rattle.table.specs.Memory.{Emptied}
 use Rattle.table.proofs.Kept.{fresh_sound}
 
--- what is filled with the answers of a call that answers x has x everywhere
-pub filled : {P A : Type 0} (R : P → A → P → Type 0) (x : A) → ((p : P) (y : A) (q : P) → R p y q → y ≡ x) → (p : P) (ys : List A) (q : P) → FoldsTo R p ys q → (i : ℕ) → get_or ys i x ≡ x
-filled R x gives p [] q ran i = refl
-filled R x gives p (y ∷ ys) q ran zero = gives p y ran.0 ran.1
-filled R x gives p (y ∷ ys) q ran (suc i) = filled R x gives ran.0 ys q ran.2 i
-
-module _ {K : Type 0} (places filled : List (Option (Task K))) (limit : ℕ) (used : limit ≡ min (length places) 12) (long : length filled ≡ limit) (empty : (i : ℕ) → get_or filled i None ≡ None) where
+module _ {K : Type 0} (places filled : List (Option (Task K))) (limit : ℕ) (used : limit ≡ min (length places) 12) (long : length filled ≡ limit) (empty : All (λ place. place ≡ None) filled) where
   pub emptied : Emptied places (filled ++ drop limit places)
   emptied = record {
     count = omega (arith, length-append filled (drop limit places), length-drop limit places);
@@ -31,7 +25,7 @@ module _ {K : Type 0} (places filled : List (Option (Task K))) (limit : ℕ) (us
     where
       at : (i : ℕ) → i < 12 → get_or (filled ++ drop limit places) i None ≡ None
       at i l = elim (dec_lt i (length filled)) [
-        | yes h ↦ get_or_append_left filled (drop limit places) None i h ∙ empty i
+        | yes h ↦ get_or_append_left filled (drop limit places) None i h ∙ empty i None h
         | no h ↦ get_or_past (filled ++ drop limit places) i None (omega (arith, length-append filled (drop limit places), length-drop limit places))
       ]
 

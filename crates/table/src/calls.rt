@@ -1,5 +1,5 @@
 // The calls of a table.
-ghost use Rattle.std.specs.Prelude.{◌≡◌, min, [], length, Some, None, MatchResult};
+ghost use Rattle.std.specs.Prelude.{◌≡◌, min, [], length, All, Some, None, MatchResult};
 ghost use Rattle.demand.specs.Refusals.{first};
 ghost use Rattle.analysis.specs.Candidates.{claim_with};
 ghost use Rattle.analysis.specs.Judge.{judge_number, judge_late};
@@ -35,12 +35,21 @@ fn is_no_priority(priority: u32) -> bool
     !(1..=LARGEST_PRIORITY).contains(&priority)
 }
 
+// Lets go what stands at these places.
+fn clear<K: Drop>(places: &mut [Option<Task<K>>])
+    ensures { All (λ place. place ≡ None) places.new }
+{
+    for place in places.iter_mut() {
+        *place = None;
+    }
+}
+
 // Empties the places that a table may use.
 fn empty<K: Drop>(places: &mut [Option<Task<K>>])
     ensures { Emptied places.old places.new }
 {
     let limit = places.len().min(MOST_ROWS);
-    places[..limit].fill_with(|| None);
+    clear(&mut places[..limit]);
 }
 
 impl<'a, K: Kind + Drop> Table<'a, K> {

@@ -96,10 +96,7 @@ impl<'a, K: Kind + Drop> Table<'a, K> {
     }
 
     // The judgement of the rows at the places, and of a newcomer.
-    pub(crate) fn judged(
-        &self,
-        newcomer: &Option<Task<K>>,
-    ) -> Result<Answers, JudgeRefusal>
+    pub(crate) fn judged(&self, newcomer: &Option<Task<K>>) -> Result<Answers, JudgeRefusal>
         ensures { Judged (claims K.demand (take MOST_ROWS self.now.places.now) newcomer.now) result }
     {
         judge(self.used(), newcomer)
