@@ -6,7 +6,7 @@ use Rattle.std.proofs.lemmas.List.Edits.{between_more}
 use Rattle.std.proofs.lemmas.List.{get_or-take, get_or-map, length-map, length-take, length_push, take_more, take_all, take-append-drop, drop_more}
 use Rattle.planfile.specs.declared.reader.State.{State}
 use Rattle.planfile.specs.declared.reader.State.TheVariants.{Field}
-use Rattle.planfile.specs.Steps.{InField, Behind, Taking}
+use Rattle.planfile.specs.Steps.{IsInField, IsBehindLine, IsBeforeByte}
 use Rattle.planfile.specs.Text.{newline, tab, parted_by, lines}
 use Rattle.planfile.proofs.Parted.{parted_at, parted_on, first_line}
 
@@ -25,10 +25,10 @@ module _ (kept : List (Bor (List ℕ))) (fs : List (List ℕ)) (first_twenty : m
   field_is d = sym (get_or-map (λ f. f.now) kept k d [] is_kept) ∙ (ap (λ xs. slice_index_or xs k []) first_twenty ∙ get_or-take 20 fs k [] few)
 
 -- what is said of a reader in a field, at that field
-pub in_field : (text : List ℕ) (at : ℕ) (kept : List (List ℕ)) (state : State) (i start : ℕ) → state ≡ Field i start → Taking text at kept state → InField text at kept i start
-in_field text at kept state i start e t = subst (Taking text at kept) e t
+pub in_field : (text : List ℕ) (at : ℕ) (kept : List (List ℕ)) (state : State) (i start : ℕ) → state ≡ Field i start → IsBeforeByte text at kept state → IsInField text at kept i start
+in_field text at kept state i start e t = subst (IsBeforeByte text at kept) e t
 
-module _ (text : List ℕ) (at : ℕ) (kept : List (List ℕ)) (i start : ℕ) (f : InField text at kept i start) where
+module _ (text : List ℕ) (at : ℕ) (kept : List (List ℕ)) (i start : ℕ) (f : IsInField text at kept i start) where
   -- a text whose bytes are all taken, with no newline among them, has no line
   pub no_line : length text ≤ at → lines text ≡ []
   no_line end =
@@ -49,7 +49,7 @@ module _ (text : List ℕ) (at : ℕ) (kept : List (List ℕ)) (i start : ℕ) (
         e ∙ (ap (λ k. take 20 (k ++ between start at text ∷ [])) f.first_twenty ∙ take_front 20 f.before (between start at text ∷ []))
 
     -- a byte of the field
-    pub on_other : slice_index_or text at 0 ≢ tab → slice_index_or text at 0 ≢ newline → InField text (at + 1) kept i start
+    pub on_other : slice_index_or text at 0 ≢ tab → slice_index_or text at 0 ≢ newline → IsInField text (at + 1) kept i start
     on_other no_tab no_newline =
         let begun = f.begun in
         record {
@@ -65,7 +65,7 @@ module _ (text : List ℕ) (at : ℕ) (kept : List (List ℕ)) (i start : ℕ) (
         }
 
     -- a tab ends the field
-    pub on_tab : (now : List (List ℕ)) → now ≡ take 20 (kept ++ between start at text ∷ []) → slice_index_or text at 0 ≡ tab → InField text (at + 1) now (i + 1) (at + 1)
+    pub on_tab : (now : List (List ℕ)) → now ≡ take 20 (kept ++ between start at text ∷ []) → slice_index_or text at 0 ≡ tab → IsInField text (at + 1) now (i + 1) (at + 1)
     on_tab now e is_tab =
         let begun = f.begun in
         let low = f.low in
@@ -80,7 +80,7 @@ module _ (text : List ℕ) (at : ℕ) (kept : List (List ℕ)) (i start : ℕ) (
         }
 
     -- a newline ends the line
-    pub on_newline : (now : List (List ℕ)) → now ≡ take 20 (kept ++ between start at text ∷ []) → slice_index_or text at 0 ≡ newline → Behind text at now (i + 1)
+    pub on_newline : (now : List (List ℕ)) → now ≡ take 20 (kept ++ between start at text ∷ []) → slice_index_or text at 0 ≡ newline → IsBehindLine text at now (i + 1)
     on_newline now e is_newline =
         let split : text ≡ take at text ++ newline ∷ drop (at + 1) text = sym (take-append-drop at text) ∙ (ap (λ t. take at text ++ t) (drop_more text at 0 inside) ∙ ap (λ b. take at text ++ b ∷ drop (at + 1) text) is_newline) in
         record {

@@ -1,10 +1,12 @@
 -- Texts that are made of parts, each before, between or behind what parts them. Assumes nothing.
-use Rattle.std.proofs.Common.{◌≡◌, ℕ, ◌+◌, ◌-◌, ◌*◌, ◌≤◌, true, false, eqb, List, [], ◌∷◌, ◌++◌, length, slice_index_or, take, sym, refl, ap, ◌∙◌, arith}
-use Rattle.std.proofs.lemmas.List.{append-nil, append_assoc, length-append, length_push, take_at, get_or_push}
+use Rattle.std.proofs.Common.{◌≡◌, ℕ, ◌+◌, ◌-◌, ◌*◌, ◌≤◌, true, false, eqb, List, [], ◌∷◌, ◌++◌, length, take, sym, refl, ap, ◌∙◌, arith}
+use Rattle.std.proofs.lemmas.List.{append-nil, append_assoc, length-append, length_push, take_at}
 use Rattle.std.proofs.lemmas.Bool.{eq-eqb}
 use Rattle.std.specs.List.{AllByRecursion, flat_map}
 use Rattle.std.proofs.lemmas.Grind.{flat_map-append}
 use Rattle.std.proofs.lemmas.List.Elements.{All-from_recursion}
+use Rattle.std.proofs.lemmas.Slice.Eq.{ends_is}
+use Rattle.std.proofs.lemmas.Bool.Decides.{Decides-eqb}
 use Rattle.std.proofs.lemmas.List.Splits.{slice_split_none, slice_split_at}
 use Rattle.planfile.specs.Text.{tab, newline, parted_by, lines, fields, ends_with_newline}
 
@@ -99,9 +101,7 @@ last_newline l [] = refl
 last_newline l (m ∷ ms) = ap (λ (t : List ℕ). l ++ newline ∷ t) (last_newline m ms) ∙ sym (append_assoc l (newline ∷ before_last m ms) (newline ∷ []))
 
 ended_push : (t : List ℕ) → ends_with_newline (t ++ newline ∷ []) ≡ true
-ended_push t =
-    let n = length_push t newline in
-    eq-eqb (slice_index_or (t ++ newline ∷ []) (length (t ++ newline ∷ []) - 1) 0) newline (get_or_push t newline 0 (length (t ++ newline ∷ []) - 1) (omega arith))
+ended_push t = (ends_is Decides-eqb (t ++ newline ∷ []) (newline ∷ []) _ refl).1 t refl
 
 pub lines_ended : (l : List ℕ) (ls : List (List ℕ)) → ends_with_newline (with_newlines (l ∷ ls)) ≡ true
 lines_ended l ls = ap ends_with_newline (last_newline l ls) ∙ ended_push (before_last l ls)

@@ -23,7 +23,7 @@ use Rattle.planfile.specs.Loading.{Loaded}
 use Rattle.planfile.specs.Laws.{row_lines, factor_of, OneAnswer}
 use Rattle.planfile.proofs.Blames.{something}
 use Rattle.planfile.proofs.FileOrder.{rows_are}
-use Rattle.planfile.proofs.RowsAccepted.{claim_lawful, not_refused}
+use Rattle.planfile.proofs.RowsAccepted.{claim_lawful, lawful_before, none_lawful, not_refused}
 
 module _ (s : System) (grows : Grows s) where
   -- a late rank has no bound, so none below it is the first late one
@@ -81,7 +81,7 @@ not_nothing a b e some none = something b some (sym e ∙ none)
 module _ (clock : Factor) (rows : List Claim) (fs : List (List ℕ)) (lawful : LawfulRows rows) where
   -- the kind of a row line is lawful too
   lawful_more : LawfulRows (claim_in clock fs ∷ rows)
-  lawful_more = (claim_lawful clock (entry_of fs), lawful)
+  lawful_more = lawful_before (claim_in clock fs) rows (claim_lawful clock (entry_of fs)) lawful
 
   -- a row line is refused for one thing
   row_once : (a b : Blame) → RowRefused clock rows fs a → RowRefused clock rows fs b → a ≡ b
@@ -115,7 +115,7 @@ behind_checks b out r s once (inr x) (inr y) = once x.1 y.1
 pub same_answer : (text : List ℕ) (room : ℕ) (r s : Result (List Claim) Blame) → FileRead text room r → FileRead text room s → r ≡ s
 same_answer text room r s =
     let clock = first_blame (clock_checks (first_fields text)) in
-    behind_checks (first_blame (file_checks text room)) _ r s (behind_checks clock (Err (at_line 1 clock)) r s (rows_once (factor_of text) 2 [] (row_lines text) tt r s))
+    behind_checks (first_blame (file_checks text room)) _ r s (behind_checks clock (Err (at_line 1 clock)) r s (rows_once (factor_of text) 2 [] (row_lines text) none_lawful r s))
 
 -- so what load answers is all that the file gives
 pub one_answer : (text before : List ℕ) (r : Result ℕ Fault) (after : List ℕ) → Loaded text before r after → OneAnswer text (length before) r

@@ -1,8 +1,10 @@
 -- The parts of a text, as the text goes on.
-use Rattle.std.proofs.Common.{◌≡◌, ℕ, ◌-◌, ◌<◌, ◌≤◌, true, false, eqb, ◌≢◌, List, [], ◌∷◌, ◌++◌, length, slice_index_or, take, drop_of_length-le, sym, refl, ap, ◌∙◌, inl, inr, append_assoc, not-suc-le-zero, sub-one, arith, length-append}
-use Rattle.std.proofs.lemmas.List.{append-nil, same_from_push, length-take, take-append-drop, drop_more}
-use Rattle.std.proofs.lemmas.Bool.{cases_Bool, eq-eqb, eqb-true, ne_eqb}
+use Rattle.std.proofs.Common.{◌≡◌, ℕ, ◌-◌, ◌<◌, ◌≤◌, true, false, eqb, ◌≢◌, List, [], ◌∷◌, ◌++◌, length, take, sym, refl, ap, ◌∙◌, inl, inr, append_assoc, not-suc-le-zero, sub-one, arith, length-append}
+use Rattle.std.proofs.lemmas.List.{append-nil, same_from_push, length-take}
+use Rattle.std.proofs.lemmas.Bool.{cases_Bool, eq-eqb, ne_eqb}
 use Rattle.std.specs.List.{onto_first}
+use Rattle.std.proofs.lemmas.Slice.Eq.{ends_is}
+use Rattle.std.proofs.lemmas.Bool.Decides.{Decides-eqb}
 use Rattle.std.proofs.lemmas.List.Splits.{length-slice_split}
 use Rattle.std.proofs.lemmas.List.Sums.{count_by-le-length}
 use Rattle.planfile.specs.Text.{newline, parted_by, lines, ends_with_newline}
@@ -96,16 +98,9 @@ few_lines text =
 
 -- a text that is ended by a newline has a line
 pub ended_line : (text : List ℕ) → ends_with_newline text ≡ true → 0 < length (lines text)
-ended_line [] e = let z : ◌≡◌ {A = ℕ} 0 10 = eqb-true 0 10 e in omega arith
-ended_line (b ∷ bs) e =
-    let text : List ℕ = b ∷ bs in
-    let n : ℕ = length bs in
-    let last : slice_index_or text n 0 ≡ newline = ap (λ k. slice_index_or text k 0) (let z : n ≡ length text - 1 = omega arith in z) ∙ eqb-true _ _ e in
-    let whole : text ≡ take n text ++ newline ∷ [] =
-    sym (take-append-drop n text)
-    ∙ (ap (λ t. take n text ++ t) (drop_more text n 0 (omega arith))
-    ∙ (ap (λ t. take n text ++ slice_index_or text n 0 ∷ t) (drop_of_length-le text (omega arith)) ∙ ap (λ l. take n text ++ l ∷ []) last))
-    in
-    let g = goes_on newline (take n text) in
-    let parts = ap length (ap (parted_by newline) whole ∙ parted_at newline (take n text) [] g.done g.last g.cut) in
+ended_line text e =
+    let front : List ℕ = take (length text - 1) text in
+    let whole : text ≡ front ++ newline ∷ [] = (ends_is Decides-eqb text (newline ∷ []) _ refl).0 e in
+    let g = goes_on newline front in
+    let parts = ap length (ap (parted_by newline) whole ∙ parted_at newline front [] g.done g.last g.cut) in
     simp length-take (omega (arith, simp length-append at parts))

@@ -17,7 +17,7 @@ use Rattle.planfile.specs.Laws.{plan_text, claims_onto, NumbersPass, SoundPlan, 
 use Rattle.planfile.proofs.Blames.{something}
 use Rattle.planfile.proofs.FileOrder.{not_both, same_ok}
 use Rattle.planfile.proofs.Joined.{Parts, WholeLines, with_newlines, line_lacks, line_short, lines_are, lines_ended}
-use Rattle.planfile.proofs.RowsAccepted.{SoundBehind, sound_more, few_entries, entry_not_refused}
+use Rattle.planfile.proofs.RowsAccepted.{none_distinct, none_lawful, SoundBehind, sound_more, few_entries, entry_not_refused}
 use Rattle.planfile.proofs.WrittenLines.{row_parts, row_parts_are, row_word, row_line, clock_word, clock_line, clock_parts, plan_text_is}
 use Rattle.planfile.proofs.WrittenPass.{entry_is, row_passes, clock_parts_are, clock_is, clock_passes}
 
@@ -99,7 +99,7 @@ module _ (clock : Factor) (es : List Entry) (sound : SoundPlan clock es) where
   plan_read room enough r (inl x) = absurd (x.0 (ap (λ (b : Blame). b.number) (file_passes room enough)))
   plan_read room enough r (inr (pass, inl x)) = absurd (x.0 (ap (λ (b : Blame). b.number) clock_line_passes))
   plan_read room enough r (inr (pass, inr x)) =
-      rows_read clock 2 [] es (record { numbers = sound.numbers; distinct = tt; lawful = tt; in_time = sound.in_time }) r
+      rows_read clock 2 [] es (record { numbers = sound.numbers; distinct = none_distinct; lawful = none_lawful; in_time = sound.in_time }) r
       (subst (λ (ls : List (List ℕ)). RowsRead clock 2 [] (drop 1 ls) r) lines_of
       (subst (λ (c : Factor). RowsRead c 2 [] (drop 1 (lines whole)) r) factor x.1))
 

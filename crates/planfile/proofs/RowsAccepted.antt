@@ -26,6 +26,20 @@ pub claim_lawful : (clock : Factor) (e : Entry) → Lawful (claim_of clock e).de
 claim_lawful clock e =
     slowed_lawful clock.numerator clock.denominator (delayed_by e.delay (jobs_demand e.jobs)) (delayed_lawful e.delay (jobs_demand e.jobs) (jobs_lawful e.jobs))
 
+-- a lawful row before lawful rows
+pub lawful_before : (c : Claim) (rows : List Claim) → Lawful c.demand → LawfulRows rows → LawfulRows (c ∷ rows)
+lawful_before c rows here more = (here, more)
+
+pub none_lawful : LawfulRows []
+none_lawful = tt
+
+-- a row that passes all checks has a new priority
+distinct_before : (rows : List Claim) (c : Claim) → first (hold_checks (account_with rows) c) ≡ 0 → DistinctPriorities rows → DistinctPriorities (c ∷ rows)
+distinct_before rows c pass more = ((passed (account_with rows) c pass).priority, more)
+
+pub none_distinct : DistinctPriorities []
+none_distinct = tt
+
 -- rows that were there before entries are among all
 some_onto : (clock : Factor) (xs rows : List Claim) (es : List Entry) → SomeOf ◌≡◌ xs rows → SomeOf ◌≡◌ xs (claims_onto clock rows es)
 some_onto clock xs rows [] s = s
@@ -38,13 +52,13 @@ all_of (x ∷ xs) = keep refl (all_of xs)
 -- the kinds of entries are lawful
 pub lawful_onto : (clock : Factor) (rows : List Claim) (es : List Entry) → LawfulRows rows → LawfulRows (claims_onto clock rows es)
 lawful_onto clock rows [] h = h
-lawful_onto clock rows (e ∷ es) h = lawful_onto clock (claim_of clock e ∷ rows) es (claim_lawful clock e, h)
+lawful_onto clock rows (e ∷ es) h = lawful_onto clock (claim_of clock e ∷ rows) es (lawful_before (claim_of clock e) rows (claim_lawful clock e) h)
 
 -- entries that pass have new priorities
 distinct_onto : (clock : Factor) (rows : List Claim) (es : List Entry) → NumbersPass clock rows es → DistinctPriorities rows → DistinctPriorities (claims_onto clock rows es)
 distinct_onto clock rows [] pass d = d
 distinct_onto clock rows (e ∷ es) pass d =
-    distinct_onto clock (claim_of clock e ∷ rows) es pass.3 ((passed (account_with rows) (claim_of clock e) pass.2).priority, d)
+    distinct_onto clock (claim_of clock e ∷ rows) es pass.3 (distinct_before rows (claim_of clock e) pass.2 d)
 
 -- there are no more entries than a table has places
 pub few_entries : (clock : Factor) (rows : List Claim) (es : List Entry) → NumbersPass clock rows es → length rows ≤ 12 → length es + length rows ≤ 12
@@ -66,8 +80,8 @@ pub sound_more : (clock : Factor) (rows : List Claim) (e : Entry) (es : List Ent
 sound_more clock rows e es s =
     record {
       numbers = s.numbers.3;
-      distinct = ((passed (account_with rows) (claim_of clock e) s.numbers.2).priority, s.distinct);
-      lawful = (claim_lawful clock e, s.lawful);
+      distinct = distinct_before rows (claim_of clock e) s.numbers.2 s.distinct;
+      lawful = lawful_before (claim_of clock e) rows (claim_lawful clock e) s.lawful;
       in_time = s.in_time;
     }
 

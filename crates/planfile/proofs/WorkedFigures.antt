@@ -1,5 +1,5 @@
 -- The worked figures, computed. Assumes nothing.
-use Rattle.std.proofs.Common.{◌≡◌, ℕ, zero, suc, ◌<◌, Bool, true, nat_le, List, [], ◌∷◌, length, slice_index_or, refl, arith}
+use Rattle.std.proofs.Common.{◌≡◌, ℕ, zero, suc, ◌<◌, Bool, true, nat_le, List, [], length, slice_index_or, refl, arith}
 use Rattle.std.proofs.lemmas.Bool.{leb-true}
 use Rattle.std.specs.List.{list_all}
 use Rattle.std.proofs.lemmas.List.Sums.{AllPass-from_list_all}
@@ -18,7 +18,7 @@ use Rattle.planfile.specs.Text.{largest_number}
 use Rattle.planfile.proofs.GarageCalls.{car_accepted, car_late, meters_late, car_withdrawn, then_one, then_two}
 use Rattle.planfile.proofs.GarageFile.{garage_read, car_13_refused, car_14_read, meters_8_refused, meters_9_read}
 use Rattle.planfile.proofs.GarageRows.{three, three_rows}
-use Rattle.planfile.proofs.RowsAccepted.{lawful_onto}
+use Rattle.planfile.proofs.RowsAccepted.{lawful_onto, none_lawful}
 
 text_figures : TextFigures
 text_figures =
@@ -63,7 +63,7 @@ sound =
     }
 
 lawful : LawfulRows file_rows
-lawful = lawful_onto even_clock [] garage_entries tt
+lawful = lawful_onto even_clock [] garage_entries none_lawful
 
 each_answer : (k : ℕ) → k < 3 → RowAnswered (at (loads (ranking file_rows)) k) (slice_index_or garage_answers k no_answer)
 each_answer zero l = record { number = refl; blocking = refl }

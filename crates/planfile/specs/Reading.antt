@@ -1,7 +1,7 @@
 -- What a plan file means: which rows it gives, or what is wrong with it. Assumes nothing.
 -- How to read it: from one row line (`RowTaken`, `RowRefused`) to all of them (`RowsRead`), with the clock line (`LinesRead`), with the checks of
 -- the whole file (`FileRead`). Each relates what is read to what it gives: rows, the last first, or a blame.
-use Rattle.std.specs.Prelude.{◌≡◌, ℕ, ◌+◌, Bool, ◌≢◌, ◌⊎◌, List, [], ◌∷◌, length, drop, Ok, Err, Result, MatchResult, nat_lt, slice_index_or}
+use Rattle.std.specs.Prelude.{◌≡◌, ℕ, ◌+◌, Bool, ◌≢◌, ◌⊎◌, List, [], ◌∷◌, drop, Ok, Err, Result, MatchResult, nat_lt, slice_index_or}
 use Rattle.analysis.specs.declared.answers.Answers.{Answers}
 use Rattle.analysis.specs.declared.TheConstants.{MOST_ROWS}
 use Rattle.analysis.specs.Judge.{RowsAnswered, answers_of}

@@ -1,8 +1,8 @@
 -- Lines, fields, words and numbers of a text, which is a list of bytes. Assumes nothing.
 -- How to read it: bytes are numbers, so 9 is a tab, 10 a newline, and 48 to 57 are the digits. FORMATS.md says the same in words.
-use Rattle.std.specs.Prelude.{◌≡◌, ℕ, ◌+◌, ◌-◌, ◌*◌, ◌^◌, ◌<◌, ◌≤◌, ◌⊎◌, Bool, true, false, if◌then◌else◌, ◌&&◌, Option, Some, None, List, [], length, take, fold, codes, ◌==◌, nat_le, nat_lt, slice_index, slice_index_or}
+use Rattle.std.specs.Prelude.{◌≡◌, ℕ, ◌+◌, ◌-◌, ◌*◌, ◌^◌, ◌<◌, ◌≤◌, ◌⊎◌, Bool, true, false, if◌then◌else◌, ◌&&◌, Option, Some, None, List, [], ◌∷◌, length, take, fold, codes, ◌==◌, nat_eq, nat_le, nat_lt, slice_index, slice_index_or}
 use Rattle.std.specs.Cmp.Lexicographic.{pointwise}
-use Rattle.std.specs.List.{slice_split}
+use Rattle.std.specs.List.{ends_with, slice_split}
 use Rattle.std.specs.Str.{all_ascii_digits}
 use Rattle.planfile.specs.declared.word.Word.{Word}
 use Rattle.planfile.specs.declared.word.Word.TheVariants.{Clock, Row, Every, Heavy, Other}
@@ -27,9 +27,9 @@ lines text = take (length (parted_by newline text) - 1) (parted_by newline text)
 abbrev pub fields : List ℕ → List (List ℕ)
 fields line = parted_by tab line
 
--- the last byte is a newline
+-- the last byte is a newline; an empty text has none
 abbrev pub ends_with_newline : List ℕ → Bool
-ends_with_newline text = slice_index text (length text - 1) == newline
+ends_with_newline text = ends_with nat_eq text (newline ∷ [])
 
 -- the field with this number, counted from 1; empty where there is none
 abbrev pub field : ℕ → List (List ℕ) → List ℕ

@@ -19,7 +19,7 @@ pub enum FieldFault {
 
 impl fmt::Display for FieldFault {
     fn fmt<W: fmt::Write>(&self, f: &mut fmt::Formatter<W>) -> fmt::Result {
-        f.write_str("check 16: the field is not a number up to 4294967295")
+        write!(f, "check 16: the field is not a number up to {}", u32::MAX)
     }
 }
 
@@ -63,7 +63,10 @@ impl fmt::Display for LineFault {
             ),
             LineFault::Count => f.write_str("check 15: there are too few fields, or too many"),
             LineFault::Number(field) => {
-                write!(f, "check 16: field {field} is not a number that can stand there")
+                write!(
+                    f,
+                    "check 16: field {field} is not a number that can stand there"
+                )
             }
             LineFault::Kind(refusal) => write!(f, "{refusal}"),
             LineFault::Hold(refusal) => write!(f, "{refusal}"),
@@ -158,10 +161,16 @@ impl LineFault {
         ensures { result ≡ line_blame self }
     {
         match self {
-            LineFault::Word(field) => Blame { field, ..by_number(17) },
+            LineFault::Word(field) => Blame {
+                field,
+                ..by_number(17)
+            },
             LineFault::Length => by_number(18),
             LineFault::Count => by_number(15),
-            LineFault::Number(field) => Blame { field, ..by_number(16) },
+            LineFault::Number(field) => Blame {
+                field,
+                ..by_number(16)
+            },
             LineFault::Kind(refusal) => by_number(refusal.number()),
             LineFault::Hold(refusal) => Blame {
                 late: late_row(refusal),

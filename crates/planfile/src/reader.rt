@@ -4,11 +4,11 @@ use std::marker::Model;
 
 mod reading;
 
-// The most fields of a line that are kept.
+// The most fields of a line that are kept: as many as the longest row line has.
 const MOST_FIELDS: usize = 20;
 
-// A line of the file. It is seen as all its fields. The first twenty are kept, in an array, since nothing is allocated here,
-// and all are counted as they are read. The text is there for the view alone.
+// A line of the file. It is seen as all its fields. The first `MOST_FIELDS` are kept, in an array, since nothing is allocated
+// here, and all are counted as they are read. The text is there for the view alone.
 #[derive(Drop)]
 pub(crate) struct Line<'a> {
     text: &'a [u8],
@@ -29,8 +29,7 @@ impl<'a> Model for Line<'a> {
         × (map (λ f. f.now) l.kept.items ≡ take MOST_FIELDS (fields l.text.now)) };
 }
 
-// Where the reader stands in the line at hand. It is matched with the next byte in one match and changed in place, so each
-// byte is looked at once; a line that is split at its tabs would be gone through twice.
+// Where the reader stands in the line at hand. It changes with each byte, so that each byte is looked at once.
 #[derive(Clone, Copy)]
 enum State {
     // in the field of this index, which began at this place
@@ -39,7 +38,7 @@ enum State {
     Ended(usize),
 }
 
-// A reader of the lines of a file: what is left of the file, and the first twenty fields of the line at hand.
+// A reader of the lines of a file: what is left of the file, and the first fields of the line at hand.
 #[derive(Drop)]
 pub(crate) struct Reader<'a> {
     text: &'a [u8],

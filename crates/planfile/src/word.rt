@@ -3,7 +3,7 @@ ghost use Rattle.std.specs.Prelude.{◌≡◌};
 ghost use Rattle.planfile.specs.Text.{word_of};
 ghost use Rattle.planfile.specs.Requests.{verb_of};
 
-// What a field can say that is no number. `Other` is no `None`: the matches on words take it as one word more.
+// What a field can say that is no number; `Other` is all that is none of the words.
 #[derive(Clone, Copy)]
 pub(crate) enum Word {
     Clock,
@@ -27,7 +27,7 @@ pub(crate) fn read_word(field: &[u8]) -> Word
     }
 }
 
-// What the first field of a line of a log can say.
+// What the first field of a line of a log can say; `Other` is all that is none of the words.
 #[derive(Clone, Copy)]
 pub(crate) enum Verb {
     Table,

@@ -9,8 +9,7 @@ use analysis::Answer;
 use arrayvec::ArrayString;
 use itoa::Buffer;
 
-// A text that is composed before it is written. Every report fits. That there is room is asked by each function of what it
-// appends, which differs, so no type says it.
+// A text that is composed before it is written. Every report fits. Each function asks that there is room for what it appends.
 type Text = ArrayString<REPORT_MEMORY>;
 
 // Appends a tab and a number.

@@ -2,7 +2,7 @@
 ghost use Rattle.std.specs.Prelude.{◌≡◌, ◌<◌, length, slice_index};
 ghost use Rattle.planfile.specs.Text.{field};
 ghost use Rattle.planfile.specs.Cut.{Keeps};
-ghost use Rattle.planfile.specs.Steps.{Kept, Taking, Stepped, kept_fields};
+ghost use Rattle.planfile.specs.Steps.{Kept, IsBeforeByte, Stepped, kept_fields};
 
 use super::{Line, Reader, State};
 use arrayvec::ArrayVec;
@@ -29,7 +29,7 @@ impl<'a> Reader<'a> {
     fn step(&mut self, at: usize, byte: u8)
         requires inside { at < length self.old.text.now }
         requires byte { byte ≡ slice_index self.old.text.now at }
-        requires taking { Taking self.old.text.now at (kept_fields self.old) self.old.state }
+        requires taking { IsBeforeByte self.old.text.now at (kept_fields self.old) self.old.state }
         ensures { Stepped self.old at self.new }
     {
         let text = self.text;
@@ -89,7 +89,7 @@ impl<'a> Line<'a> {
         self.count
     }
 
-    // The first field. There is always one, which each `field(1)` would have to show.
+    // The first field. There is always one.
     pub(crate) fn first(&self) -> &'a [u8]
         ensures { result.now ≡ field 1 self.now }
     {

@@ -1,6 +1,6 @@
 -- A byte of a field leaves the reader as it is; a tab and a newline end the field, which is kept then.
 use Rattle.std.proofs.Common.{sym, refl, ◌∙◌, subst, arith}
-use Rattle.planfile.specs.Steps.{Taken, kept_fields}
+use Rattle.planfile.specs.Steps.{IsPastByte, kept_fields}
 use Rattle.planfile.proofs.Cutting.{in_field, on_other, on_tab, on_newline}
 use Rattle.planfile.proofs.reader.Reader.step.Goals as goal
 
@@ -26,5 +26,5 @@ returns-in-Field-default c =
     let e = c.in-Field-default.is-0 in
     record {
       text = refl;
-      taken = subst (Taken r.text.now c.args.at (kept_fields r)) (sym e) (on_other r.text.now c.args.at (kept_fields r) _ _ (in_field _ _ _ _ _ _ e c.requires.taking) c.requires.inside (λ h. omega arith) (λ h. omega arith));
+      taken = subst (IsPastByte r.text.now c.args.at (kept_fields r)) (sym e) (on_other r.text.now c.args.at (kept_fields r) _ _ (in_field _ _ _ _ _ _ e c.requires.taking) c.requires.inside (λ h. omega arith) (λ h. omega arith));
     }
