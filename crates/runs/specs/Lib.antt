@@ -2,4 +2,5 @@
 pub mod Holds
 pub mod Passing
 pub mod Calls
+pub mod Register
 pub mod Desk

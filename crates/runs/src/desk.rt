@@ -28,6 +28,7 @@ use table::{Hold, HoldRefusal, SpendRefusal, Table};
 pub struct Desk<'a, K: Kind> {
     register: Register<'a, K>,
     holds: Vec<Hold>,
+    /// One of the holds is on each row that stands as held, and on no other.
     pub ghost in_hand: { InHand register.table (vec_items holds) },
 }
 

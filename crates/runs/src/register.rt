@@ -27,15 +27,17 @@ pub struct Register<'a, K: Kind> {
 }
 
 impl<'a, K: Kind + Drop> Register<'a, K> {
+    ghost use Rattle.runs.specs.Register.{table_of};
+
     /// An empty table of this number over row memory, of which it uses the first [`MOST_ROWS`](analysis::MOST_ROWS) places at
     /// most. What stood there is let go.
     pub fn new(number: u8, places: &'a mut [Option<Task<K>>]) -> Register<'a, K>
         ensures agrees { AgreesWith K.demand
-            (fresh number (min (length places.old) MOST_ROWS)) result.table }
-        ensures history { HasHistory K.demand [] result.table }
-        ensures memory { Emptied places.old result.table.places.now }
-        ensures number { result.table.number ≡ number }
-        ensures lent { result.table.places.ghost_name ≡ places.entry.ghost_name }
+            (fresh number (min (length places.old) MOST_ROWS)) (table_of result) }
+        ensures history { HasHistory K.demand [] (table_of result) }
+        ensures memory { Emptied places.old (table_of result).places.now }
+        ensures number { (table_of result).number ≡ number }
+        ensures lent { (table_of result).places.ghost_name ≡ places.entry.ghost_name }
     {
         Register {
             table: Table::new(number, places),
@@ -44,23 +46,23 @@ impl<'a, K: Kind + Drop> Register<'a, K> {
 
     /// The number of the table.
     pub fn number(&self) -> u8
-        ensures { result ≡ self.now.table.number }
+        ensures { result ≡ (table_of self.now).number }
     {
         self.table.number()
     }
 
     /// The table, to be looked at: its rows, their states, and how many it can still take.
     pub fn table(&self) -> &Table<'a, K>
-        ensures { result.now ≡ self.now.table }
+        ensures { result.now ≡ table_of self.now }
     {
         &self.table
     }
 
     /// The number, the bound, the vector and the blocking of each row, highest row first. Bounds and blocking are in ticks.
     pub fn answers(&self) -> Answers
-        ensures in_time { InTime (rows_at K.demand self.now.table) (answers_of result) }
+        ensures in_time { InTime (rows_at K.demand (table_of self.now)) (answers_of result) }
         ensures account { MatchesAccount K.demand
-            (λ a. RowsAnswered a.rows (answers_of result)) self.now.table }
+            (λ a. RowsAnswered a.rows (answers_of result)) (table_of self.now) }
     {
         self.table.answers().unwrap()
     }
@@ -69,12 +71,13 @@ impl<'a, K: Kind + Drop> Register<'a, K> {
     /// checks 5 to 11, and changes nothing.
     pub fn take_in(&mut self, row: Row, kind: K) -> Result<Answers, HoldRefusal>
         ensures account { FollowsAccount K.demand
-            (λ a. KeepsRow a (claim_with K.demand row kind) result) self.old.table self.new.table }
+            (λ a. KeepsRow a (claim_with K.demand row kind) result)
+            (table_of self.old) (table_of self.new) }
         ensures history { ContinuesBy K.demand
-            (passing Way.KeepRow self.old.table.number (claim_with K.demand row kind) result)
-            self.old.table self.new.table }
-        ensures refused { OnErr result (SameTable self.old.table self.new.table) }
-        ensures frame { frame_of self.new.table ≡ frame_of self.old.table }
+            (passing Way.KeepRow (table_of self.old).number (claim_with K.demand row kind) result)
+            (table_of self.old) (table_of self.new) }
+        ensures refused { OnErr result (SameTable (table_of self.old) (table_of self.new)) }
+        ensures frame { frame_of (table_of self.new) ≡ frame_of (table_of self.old) }
     {
         self.pass(row, kind, Way::KeepRow)
     }
@@ -84,12 +87,13 @@ impl<'a, K: Kind + Drop> Register<'a, K> {
     /// behind.
     pub fn try_out(&mut self, row: Row, kind: K) -> Result<Answers, HoldRefusal>
         ensures account { FollowsAccount K.demand
-            (λ a. GivesRowUp a (claim_with K.demand row kind) result) self.old.table self.new.table }
+            (λ a. GivesRowUp a (claim_with K.demand row kind) result)
+            (table_of self.old) (table_of self.new) }
         ensures history { ContinuesBy K.demand
-            (passing Way.GiveUp self.old.table.number (claim_with K.demand row kind) result)
-            self.old.table self.new.table }
-        ensures refused { OnErr result (SameTable self.old.table self.new.table) }
-        ensures frame { frame_of self.new.table ≡ frame_of self.old.table }
+            (passing Way.GiveUp (table_of self.old).number (claim_with K.demand row kind) result)
+            (table_of self.old) (table_of self.new) }
+        ensures refused { OnErr result (SameTable (table_of self.old) (table_of self.new)) }
+        ensures frame { frame_of (table_of self.new) ≡ frame_of (table_of self.old) }
     {
         self.pass(row, kind, Way::GiveUp)
     }
@@ -97,12 +101,13 @@ impl<'a, K: Kind + Drop> Register<'a, K> {
     // Holds a row and at once spends its hold.
     fn pass(&mut self, row: Row, kind: K, way: Way) -> Result<Answers, HoldRefusal>
         ensures account { FollowsAccount K.demand
-            (λ a. Passes way a (claim_with K.demand row kind) result) self.old.table self.new.table }
+            (λ a. Passes way a (claim_with K.demand row kind) result)
+            (table_of self.old) (table_of self.new) }
         ensures history { ContinuesBy K.demand
-            (passing way self.old.table.number (claim_with K.demand row kind) result)
-            self.old.table self.new.table }
-        ensures refused { OnErr result (SameTable self.old.table self.new.table) }
-        ensures frame { frame_of self.new.table ≡ frame_of self.old.table }
+            (passing way (table_of self.old).number (claim_with K.demand row kind) result)
+            (table_of self.old) (table_of self.new) }
+        ensures refused { OnErr result (SameTable (table_of self.old) (table_of self.new)) }
+        ensures frame { frame_of (table_of self.new) ≡ frame_of (table_of self.old) }
     {
         let (hold, answers) = self.table.hold_answered(row, kind)?;
         match way {
@@ -116,10 +121,10 @@ impl<'a, K: Kind + Drop> Register<'a, K> {
     pub(crate) fn hold(&mut self, task: Task<K>) -> Result<Hold, HoldRefusal>
         ensures history { Continues K.demand
             (holding (claim_with K.demand task.row task.kind) result)
-            self.old.table self.new.table }
+            (table_of self.old) (table_of self.new) }
         ensures held { MatchResult result
-            (GivesHoldOn self.old.table self.new.table task.row.number)
-            (λ e. SameHeld self.old.table self.new.table) }
+            (GivesHoldOn (table_of self.old) (table_of self.new) task.row.number)
+            (λ e. SameHeld (table_of self.old) (table_of self.new)) }
     {
         self.table.hold(task.row, task.kind)
     }
@@ -127,9 +132,10 @@ impl<'a, K: Kind + Drop> Register<'a, K> {
     // Spends a hold, and keeps its row or takes it out.
     pub(crate) fn spend(&mut self, way: Way, hold: Hold) -> Result<(), SpendRefusal>
         ensures history { Continues K.demand (spending way hold result)
-            self.old.table self.new.table }
-        ensures held { MatchResult result (λ _. SpendsHoldOn self.old.table self.new.table hold)
-            (HandsBack self.old.table self.new.table hold) }
+            (table_of self.old) (table_of self.new) }
+        ensures held { MatchResult result
+            (λ _. SpendsHoldOn (table_of self.old) (table_of self.new) hold)
+            (HandsBack (table_of self.old) (table_of self.new) hold) }
     {
         match way {
             Way::KeepRow => self.table.keep(hold),
@@ -139,20 +145,22 @@ impl<'a, K: Kind + Drop> Register<'a, K> {
 
     // Spends a hold of this table whose row is held.
     pub(crate) fn spend_held(&mut self, way: Way, hold: Hold)
-        requires own { hold.table ≡ self.old.table.number }
-        requires held { IsTrue (has_held self.old.table hold.row) }
-        ensures history { Continues K.demand (spend_of way hold) self.old.table self.new.table }
-        ensures held { SpendsHoldOn self.old.table self.new.table hold }
+        requires own { hold.table ≡ (table_of self.old).number }
+        requires held { IsTrue (has_held (table_of self.old) hold.row) }
+        ensures history { Continues K.demand (spend_of way hold)
+            (table_of self.old) (table_of self.new) }
+        ensures held { SpendsHoldOn (table_of self.old) (table_of self.new) hold }
     {
         self.spend(way, hold).unwrap();
     }
 
     // Gives up a hold of this table whose row is held: the row goes out.
     pub(crate) fn give_up(&mut self, hold: Hold)
-        requires own { hold.table ≡ self.old.table.number }
-        requires held { IsTrue (has_held self.old.table hold.row) }
-        ensures history { Continues K.demand (release_of hold) self.old.table self.new.table }
-        ensures held { SpendsHoldOn self.old.table self.new.table hold }
+        requires own { hold.table ≡ (table_of self.old).number }
+        requires held { IsTrue (has_held (table_of self.old) hold.row) }
+        ensures history { Continues K.demand (release_of hold)
+            (table_of self.old) (table_of self.new) }
+        ensures held { SpendsHoldOn (table_of self.old) (table_of self.new) hold }
     {
         self.spend_held(Way::GiveUp, hold);
     }
@@ -160,15 +168,15 @@ impl<'a, K: Kind + Drop> Register<'a, K> {
     // Takes a kept row out.
     pub(crate) fn withdraw(&mut self, number: u32) -> Result<(), WithdrawRefusal>
         ensures history { Continues K.demand (withdrawing number result)
-            self.old.table self.new.table }
-        ensures held { SameHeld self.old.table self.new.table }
+            (table_of self.old) (table_of self.new) }
+        ensures held { SameHeld (table_of self.old) (table_of self.new) }
     {
         self.table.withdraw(number)
     }
 
     // The bound and the vector of a row.
     pub(crate) fn bound(&self, number: u32) -> Result<(u32, u32), BoundRefusal>
-        ensures { Continues K.demand (bounding number result) self.now.table self.now.table }
+        ensures { Continues K.demand (bounding number result) (table_of self.now) (table_of self.now) }
     {
         self.table.bound(number)
     }
