@@ -102,7 +102,8 @@ fn end_options(args: &mut Vec<String>) -> usize
 }
 
 fn run(rt: &HostRuntime) -> anyhow::Result<Outcome> {
-    let mut args: Vec<String> = env::args(rt)?.skip(1).collect(rt.alloc())?;
+    let args = env::args(rt).context("arguments")?;
+    let mut args: Vec<String> = args.skip(1).collect(rt.alloc())?;
     let end = end_options(&mut args);
     let options = &args[..end];
     if options.iter().any(|arg| arg.as_str() == "--help") {
