@@ -1,73 +1,33 @@
--- The greatest of a list, as an iterator finds it. Assumes nothing.
-use Rattle.std.proofs.Common.{◌≡◌, ℕ, zero, suc, ◌<◌, ◌≤◌, max, Bool, true, false, cond, eqb, not, List, [], ◌∷◌, map, length, get_or, take, Some, None, Option, sym, refl, ap, ◌∙◌, ap₂, add-one, arith}
-use Rattle.std.proofs.lemmas.List.{take_more, take_all}
-use Rattle.std.proofs.lemmas.List.Recursion.{max_push}
-use Rattle.std.proofs.lemmas.Slice.Zip.{length-zip, get_or-zip}
-use Rattle.std.specs.Option.{unwrap_or}
-use Rattle.std.specs.List.{filter, fold, reduce, zip}
+-- Ceilings and longest sections, with one row more. Assumes nothing.
+use Rattle.std.proofs.Common.{◌≡◌, ℕ, zero, suc, ◌+◌, ◌<◌, max, Bool, true, false, cond, eqb, List, [], ◌∷◌, length, get_or, take, Some, None, Option, refl, ap, ◌∙◌, not-suc-le-zero, add-one, arith}
 use Rattle.analysis.specs.declared.Rank.{Rank}
-use Rattle.analysis.specs.declared.Row.{Row}
-use Rattle.analysis.specs.Locks.{section, greater_of, ceiling, reaches, longest_in_row, longest_in}
-use Rattle.analysis.specs.Places.{ranked_rows}
+use Rattle.analysis.specs.declared.TheConstants.{LOCKS}
+use Rattle.analysis.specs.Locks.{section, greater_of, ceiling, longest_in_row, longest_in}
+use Rattle.analysis.specs.Places.{ranked_rows, no_rank}
 
-fold_max : (p q : ℕ) (ns : List ℕ) → fold max (max p q) ns ≡ max p (fold max q ns)
-fold_max p q [] = refl
-fold_max p q (n ∷ ns) =
-    let e : max (max p q) n ≡ max p (max q n) = omega arith in
-    ap (λ m. fold max m ns) e ∙ fold_max p (max q n) ns
+-- with a row more in front and one more behind
+both_ends : (a b : Bool) (p q : ℕ) (o : Option ℕ) → cond a (cond b o (Some (greater_of q o))) (Some (greater_of p (cond b o (Some (greater_of q o))))) ≡ cond b (cond a o (Some (greater_of p o))) (Some (greater_of q (cond a o (Some (greater_of p o)))))
+both_ends true b p q o = refl
+both_ends false true p q o = refl
+both_ends false false p q None = ap Some (omega arith)
+both_ends false false p q (Some n) = ap Some (omega arith)
 
--- with one more in front
-greatest_more : (p : ℕ) (ns : List ℕ) → reduce max (p ∷ ns) ≡ Some (greater_of p (reduce max ns))
-greatest_more p [] = refl
-greatest_more p (n ∷ ns) = ap Some (fold_max p n ns)
+ceiling_next : (rs : List Rank) (i lock : ℕ) → i < length rs → ceiling (ranked_rows (take (suc i) rs)) lock ≡ cond (eqb (section (get_or rs i no_rank).row lock) 0) (ceiling (ranked_rows (take i rs)) lock) (Some (greater_of (get_or rs i no_rank).row.priority (ceiling (ranked_rows (take i rs)) lock)))
+ceiling_next [] i lock h = absurd (not-suc-le-zero h)
+ceiling_next (r ∷ rs) zero lock h = refl
+ceiling_next (r ∷ rs) (suc i) lock h =
+    ap (λ o. cond (eqb (section r.row lock) 0) o (Some (greater_of r.row.priority o))) (ceiling_next rs i lock (omega arith))
+    ∙ both_ends (eqb (section r.row lock) 0) (eqb (section (get_or rs i no_rank).row lock) 0) r.row.priority (get_or rs i no_rank).row.priority (ceiling (ranked_rows (take i rs)) lock)
 
-raised_or : (p : ℕ) (o : Option ℕ) → unwrap_or (Some (greater_of p o)) 0 ≡ max p (unwrap_or o 0)
-raised_or p None = omega arith
-raised_or p (Some q) = refl
+-- the ceiling by the first i rows and the next one
+pub ceiling_more : (rs : List Rank) (i lock : ℕ) → i < length rs → ceiling (ranked_rows (take (i + 1) rs)) lock ≡ cond (eqb (section (get_or rs i no_rank).row lock) 0) (ceiling (ranked_rows (take i rs)) lock) (Some (greater_of (get_or rs i no_rank).row.priority (ceiling (ranked_rows (take i rs)) lock)))
+ceiling_more rs i lock h = ap (λ n. ceiling (ranked_rows (take n rs)) lock) (add-one i) ∙ ceiling_next rs i lock h
 
--- the ceiling of a lock is the greatest priority of the rows that use it
-one_more : (b : Bool) (r : Rank) (rs : List Rank) (o : Option ℕ) → reduce max (map (λ (s : Rank). s.row.priority) rs) ≡ o → reduce max (map (λ (s : Rank). s.row.priority) (cond (not b) (r ∷ rs) rs)) ≡ cond b o (Some (greater_of r.row.priority o))
-one_more true r rs o e = e
-one_more false r rs o e =
-    greatest_more r.row.priority (map (λ (s : Rank). s.row.priority) rs) ∙ ap (λ (q : Option ℕ). Some (greater_of r.row.priority q)) e
+longest_next : (ceilings : ℕ → Option ℕ) (p : ℕ) (rs : List Rank) (i : ℕ) → i < length rs → longest_in ceilings p (ranked_rows (take (suc i) rs)) ≡ max (longest_in ceilings p (ranked_rows (take i rs))) (longest_in_row ceilings p (get_or rs i no_rank).row LOCKS)
+longest_next ceilings p [] i h = absurd (not-suc-le-zero h)
+longest_next ceilings p (r ∷ rs) zero h = omega arith
+longest_next ceilings p (r ∷ rs) (suc i) h = let e = longest_next ceilings p rs i (omega arith) in omega arith
 
-pub ceiling_is : (rs : List Rank) (lock : ℕ) → reduce max (map (λ (r : Rank). r.row.priority) (filter (λ (r : Rank). not (eqb (section r.row lock) 0)) rs)) ≡ ceiling (ranked_rows rs) lock
-ceiling_is [] lock = refl
-ceiling_is (r ∷ rs) lock =
-    one_more (eqb (section r.row lock) 0) r (filter (λ (s : Rank). not (eqb (section s.row lock) 0)) rs) (ceiling (ranked_rows rs) lock) (ceiling_is rs lock)
-
--- the greatest of what f makes of each, 0 where there is none
-abbrev pub greatest : {X : Type 0} → (X → ℕ) → List X → ℕ
-greatest f xs = unwrap_or (reduce max (map f xs)) 0
-
-greatest_step : {X : Type 0} (f : X → ℕ) (x : X) (xs : List X) → greatest f (x ∷ xs) ≡ max (f x) (greatest f xs)
-greatest_step f x xs =
-    ap (λ (o : Option ℕ). unwrap_or o 0) (greatest_more (f x) (map f xs)) ∙ raised_or (f x) (reduce max (map f xs))
-
--- the longest section of some rows is the greatest of those of each
-pub longest_is : (ceilings : ℕ → Option ℕ) (p : ℕ) (rs : List Rank) → greatest (λ (r : Rank). longest_in_row ceilings p r.row 8) rs ≡ longest_in ceilings p (ranked_rows rs)
-longest_is ceilings p [] = refl
-longest_is ceilings p (r ∷ rs) =
-    greatest_step (λ (s : Rank). longest_in_row ceilings p s.row 8) r rs ∙ ap (max (longest_in_row ceilings p r.row 8)) (longest_is ceilings p rs)
-
-module _ (ceilings : List (Option ℕ)) (p : ℕ) (r : Row) where
-  -- a section with its lock's ceiling
-  abbrev pub pairs : List (ℕ × Option ℕ)
-  pairs = zip r.sections ceilings
-
-  abbrev pub blocks : ℕ × Option ℕ → ℕ
-  blocks pair = cond (reaches pair.1 p) pair.0 0
-
-  first_locks : (n : ℕ) → n ≤ length r.sections → n ≤ length ceilings → greatest blocks (take n pairs) ≡ longest_in_row (λ k. get_or ceilings k None) p r n
-  first_locks zero s c = refl
-  first_locks (suc n) s c =
-      let long : n < length pairs = omega (arith, length-zip r.sections ceilings) in
-      ap (λ k. greatest blocks (take k pairs)) (sym (add-one n))
-      ∙ ap (greatest blocks) (take_more pairs n (0, None) long)
-      ∙ max_push (greatest blocks) blocks refl (greatest_step blocks) (take n pairs) (get_or pairs n (0, None))
-      ∙ ap₂ max (first_locks n (omega arith) (omega arith)) (ap blocks (get_or-zip r.sections ceilings n (0, None) (omega arith) (omega arith)))
-
-  -- the longest section of one row is the greatest over its locks
-  pub longest_of_is : length r.sections ≡ 8 → length ceilings ≡ 8 → greatest blocks pairs ≡ longest_in_row (λ k. get_or ceilings k None) p r 8
-  longest_of_is s c =
-      ap (greatest blocks) (sym (take_all 8 pairs (omega (arith, length-zip r.sections ceilings)))) ∙ first_locks 8 (omega arith) (omega arith)
+-- the longest section of the first i rows and the next one
+pub longest_more : (ceilings : ℕ → Option ℕ) (p : ℕ) (rs : List Rank) (i : ℕ) → i < length rs → longest_in ceilings p (ranked_rows (take (i + 1) rs)) ≡ max (longest_in ceilings p (ranked_rows (take i rs))) (longest_in_row ceilings p (get_or rs i no_rank).row LOCKS)
+longest_more ceilings p rs i h = ap (λ n. longest_in ceilings p (ranked_rows (take n rs))) (add-one i) ∙ longest_next ceilings p rs i h

@@ -1,21 +1,31 @@
 // Ceilings of locks, and how long a row can be blocked.
 ghost use Rattle.std.specs.Prelude.{◌≡◌, ℕ, ◌+◌, ◌*◌, ◌^◌, ◌<◌, ◌≤◌, length, if◌then◌else◌};
-ghost use Rattle.analysis.specs.Locks.{ceiling, ceiling_at, longest_in, longest_in_row, reaches};
+ghost use Rattle.analysis.specs.Locks.{ceiling, ceiling_at, greater_of, longest_in, longest_in_row, reaches};
 ghost use Rattle.analysis.specs.Places.{ranked_rows};
 
 use super::{LOCKS, Rank, Row};
 use std::array;
 
+// The greater of a priority and the greatest found so far, if any.
+fn greater_of(priority: u32, found: Option<u32>) -> u32
+    ensures { result ≡ greater_of priority found }
+{
+    found.map_or(priority, |top| priority.max(top))
+}
+
 // The greatest priority among the rows that use the lock, if any does.
+#[tactic(auto, using(crate::proofs::Greatest::ceiling_more))]
 fn ceiling_of(ranks: &[Rank], lock: usize) -> Option<u32>
     requires { lock < LOCKS }
     ensures { result ≡ ceiling (ranked_rows ranks.now) lock }
 {
-    ranks
-        .iter()
-        .filter(|rank| rank.row.sections[lock] != 0)
-        .map(|rank| rank.row.priority)
-        .max()
+    let mut ceiling = None;
+    for rank in ranks {
+        if rank.row.sections[lock] != 0 {
+            ceiling = Some(greater_of(rank.row.priority, ceiling));
+        }
+    }
+    ceiling
 }
 
 /// The ceiling of each lock, by its number: the greatest priority among the rows that use it, or `None` where no row does.
@@ -43,22 +53,23 @@ fn blocking_section(section: u32, ceiling: Option<u32>, priority: u32) -> u32
 fn longest_section(ceilings: &[Option<u32>; LOCKS], priority: u32, row: &Row) -> u32
     ensures { result ≡ longest_in_row (ceiling_at ceilings.now) priority row.now LOCKS }
 {
-    row.sections
-        .iter()
-        .zip(ceilings)
-        .map(|(section, ceiling)| blocking_section(*section, *ceiling, priority))
-        .max()
-        .unwrap_or(0)
+    let mut longest = 0;
+    for (lock, ceiling) in ceilings.iter().enumerate() {
+        longest = longest.max(blocking_section(row.sections[lock], *ceiling, priority));
+    }
+    longest
 }
 
 // The longest section of these rows that can block the priority.
+#[tactic(auto, using(crate::proofs::Greatest::longest_more))]
 fn longest_of_all(ceilings: &[Option<u32>; LOCKS], priority: u32, rows: &[Rank]) -> u32
     ensures { result ≡ longest_in (ceiling_at ceilings.now) priority (ranked_rows rows.now) }
 {
-    rows.iter()
-        .map(|rank| longest_section(ceilings, priority, &rank.row))
-        .max()
-        .unwrap_or(0)
+    let mut longest = 0;
+    for rank in rows {
+        longest = longest.max(longest_section(ceilings, priority, &rank.row));
+    }
+    longest
 }
 
 // How long the row can be blocked by those below it: when a job starts, and again each time that it comes back from a
