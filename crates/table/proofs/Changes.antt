@@ -9,7 +9,10 @@ use Rattle.demand.specs.Demand.{Demand, Lawful}
 use Rattle.demand.specs.Refusals.{first}
 use Rattle.analysis.specs.declared.Task.{Task}
 use Rattle.analysis.specs.Candidates.{claims_of}
-use Rattle.analysis.specs.Ranks.{Claim, Reordered, next, swapped, through}
+use Rattle.analysis.specs.Ranks.{Claim}
+use Rattle.analysis.proofs.Reordered.{pairs_head, swap_front}
+use Rattle.std.specs.Prelude.{IsPermutation}
+use Rattle.std.proofs.lemmas.List.Sorted.{IsPermutation-refl}
 use Rattle.table.specs.declared.hold.Hold.{Hold}
 use Rattle.table.specs.declared.state.State.{State}
 use Rattle.table.specs.declared.state.State.TheVariants.{Free, Held, Kept}
@@ -20,8 +23,8 @@ use Rattle.table.specs.Memory.{PutAt, StateAt}
 use Rattle.table.specs.Places.{Uses, At}
 use Rattle.table.proofs.Kept.{with_row_sound, with_kept_sound, released_sound, with_withdrawn_sound}
 use Rattle.table.proofs.Lookups.{tasks, task_at, state_at, AtLow, within}
-use Rattle.table.proofs.Parts.{no_number, others_stay, pairs_head}
-use Rattle.table.proofs.Shared.{reordered_refl, filter_reordered, reordered_back, number_reordered, numbers_reordered, passed, none_named_at, stands_still}
+use Rattle.table.proofs.Parts.{no_number, others_stay}
+use Rattle.table.proofs.Shared.{filter_permuted, permuted_back, permuted_next, permuted_through, number_permuted, numbers_permuted, passed, none_named_at, stands_still}
 use Rattle.table.proofs.Spending.{stands, held_at, kept_at, is_spent, still_ours, spent_gone}
 
 pub without_none : (n : ℕ) (cs : List Claim) → has_number n cs ≡ false → without_row n cs ≡ cs
@@ -39,12 +42,12 @@ module _ {K : Type 0} (demand : K → Demand) where
   claim u = record { row = u.row; demand = demand u.kind }
 
   -- a task that is put at a place
-  put_in : (os : List (Option (Task K))) (p : ℕ) (u : Task K) → p < length os → Reordered (claims_of demand (set os p (Some u))) (claim u ∷ claims_of demand (set os p None))
+  put_in : (os : List (Option (Task K))) (p : ℕ) (u : Task K) → p < length os → IsPermutation (claims_of demand (set os p (Some u))) (claim u ∷ claims_of demand (set os p None))
   put_in [] p u l = absurd (not-suc-le-zero l)
-  put_in (None ∷ os) zero u l = reordered_refl _
-  put_in (Some x ∷ os) zero u l = reordered_refl _
+  put_in (None ∷ os) zero u l = IsPermutation-refl _
+  put_in (Some x ∷ os) zero u l = IsPermutation-refl _
   put_in (None ∷ os) (suc p) u l = put_in os p u (omega arith)
-  put_in (Some x ∷ os) (suc p) u l = through (next (put_in os p u (omega arith))) swapped
+  put_in (Some x ∷ os) (suc p) u l = permuted_through (permuted_next (claim x) (put_in os p u (omega arith))) (swap_front (claim x) (claim u) (claims_of demand (set os p None)))
 
 module _ {K : Type 0} {demand : K → Demand} {a : Account} (t : Table K) (agrees : AgreesWith demand a t) (p : ℕ) (used : Uses t p) where
   -- the rows of the other places
@@ -52,7 +55,7 @@ module _ {K : Type 0} {demand : K → Demand} {a : Account} (t : Table K) (agree
   rest = claims_of demand (set (tasks t) p None)
 
   -- the place is written, where no other has a row of the number n
-  written : (b : Account) (n : ℕ) → b.number ≡ a.number → b.room ≡ a.room → ((m : ℕ) → m ≢ n → has_unspent b.number m b.holds ≡ has_unspent a.number m a.holds) → has_number n rest ≡ false → (s : State) (o : Option (Task K)) → StandsAt b s o → Reordered (claims_of demand (set (tasks t) p o)) b.rows → Sound b → Agrees demand b t.number (set t.states p s) (set t.places.now p o)
+  written : (b : Account) (n : ℕ) → b.number ≡ a.number → b.room ≡ a.room → ((m : ℕ) → m ≢ n → has_unspent b.number m b.holds ≡ has_unspent a.number m a.holds) → has_number n rest ≡ false → (s : State) (o : Option (Task K)) → StandsAt b s o → IsPermutation (claims_of demand (set (tasks t) p o)) b.rows → Sound b → Agrees demand b t.number (set t.states p s) (set t.places.now p o)
   written b n number room still apart s o new rows sound = record {
     number_is = number ∙ agrees.number_is;
     states_are = length-set t.states p s ∙ agrees.states_are;
@@ -79,18 +82,18 @@ module _ {K : Type 0} {demand : K → Demand} {a : Account} (t : Table K) (agree
     there : set (tasks t) p (Some u) ≡ tasks t
     there = subst (λ o. set (tasks t) p o ≡ tasks t) at (set-get_or (tasks t) p None)
 
-    split : Reordered a.rows (claim demand u ∷ rest)
-    split = through (reordered_back agrees.rows_are) (subst (λ xs. Reordered (claims_of demand xs) (claim demand u ∷ rest)) there (put_in demand (tasks t) p u (let l = length-take 12 t.places.now in let w = used in omega arith)))
+    split : IsPermutation a.rows (claim demand u ∷ rest)
+    split = permuted_through (permuted_back agrees.rows_are) (subst (λ xs. IsPermutation (claims_of demand xs) (claim demand u ∷ rest)) there (put_in demand (tasks t) p u (let l = length-take 12 t.places.now in let w = used in omega arith)))
 
     alone : has_number u.row.number rest ≡ false
-    alone = no_number u.row.number rest (pairs_head (λ c d. number_of c ≢ number_of d) (claim demand u) rest (numbers_reordered split agrees.sound.numbers))
+    alone = no_number u.row.number rest (pairs_head (λ c d. number_of c ≢ number_of d) (claim demand u) rest (numbers_permuted split agrees.sound.numbers))
 
     -- it goes out, and leaves these holds
     row_out : (n : ℕ) → n ≡ u.row.number → (hs : List Bears) → ((m : ℕ) → m ≢ n → has_unspent a.number m hs ≡ has_unspent a.number m a.holds) → Sound (record { number = a.number; room = a.room; rows = without_row n a.rows; holds = hs }) → Agrees demand (record { number = a.number; room = a.room; rows = without_row n a.rows; holds = hs }) t.number (set t.states p Free) (set t.places.now p None)
     row_out n is hs still sound =
         let apart : has_number n rest ≡ false = rw is alone in
         written (record { number = a.number; room = a.room; rows = without_row n a.rows; holds = hs }) n refl refl still apart Free None tt
-        (reordered_back (subst (Reordered (without_row n a.rows)) (let out : without_row n (claim demand u ∷ rest) ≡ without_row n rest = grind (arith, nat_tests) in out ∙ without_none n rest apart) (filter_reordered (λ c. not (eqb (number_of c) n)) split))) sound
+        (permuted_back (subst (IsPermutation (without_row n a.rows)) (let out : without_row n (claim demand u ∷ rest) ≡ without_row n rest = grind (arith, nat_tests) in out ∙ without_none n rest apart) (filter_permuted (λ c. not (eqb (number_of c) n)) split))) sound
 
 -- a table after a place was written, by what was written
 put_agrees : {K : Type 0} {demand : K → Demand} {b : Account} {t u : Table K} {p : ℕ} {s : State} {o : Option (Task K)} → PutAt t u p s o → Agrees demand b t.number (set t.states p s) (set t.places.now p o) → AgreesWith demand b u
@@ -109,11 +112,11 @@ module _ {K : Type 0} {demand : K → Demand} {a : Account} (t : Table K) (agree
   row_in u p at task put lawful passes in_time =
       let n : ℕ = task.row.number in
       let empty : set (tasks t) p None ≡ tasks t = subst (λ o. set (tasks t) p o ≡ tasks t) (nothing_stands a (task_at t p) (stands t agrees Free p (at.0.0, at.1))) (set-get_or (tasks t) p None) in
-      let rows : Reordered (claims_of demand (set (tasks t) p None)) a.rows = subst (λ xs. Reordered (claims_of demand xs) a.rows) (sym empty) agrees.rows_are in
+      let rows : IsPermutation (claims_of demand (set (tasks t) p None)) a.rows = subst (λ xs. IsPermutation (claims_of demand xs) a.rows) (sym empty) agrees.rows_are in
       put_agrees put
       (written t agrees p at.0 (with_row a (claim demand task)) n refl refl (λ m ne. unspent_more a.number m n ne a.holds)
-      (number_reordered n rows ∙ (passed a (claim demand task) passes).number) (Held n) (Some task) (refl, unspent_new a.number n a.holds)
-      (through (put_in demand (tasks t) p task (let l = length-take 12 t.places.now in let w = at.0 in omega arith)) (next rows))
+      (number_permuted n rows ∙ (passed a (claim demand task) passes).number) (Held n) (Some task) (refl, unspent_new a.number n a.holds)
+      (permuted_through (put_in demand (tasks t) p task (let l = length-take 12 t.places.now in let w = at.0 in omega arith)) (permuted_next (claim demand task) rows))
       (with_row_sound a agrees.sound (claim demand task) lawful passes in_time))
 
   -- the hold of a row that is held here is spent, and the row stays
@@ -129,7 +132,7 @@ module _ {K : Type 0} {demand : K → Demand} {a : Account} (t : Table K) (agree
       (written t agrees p used (with_kept a h) h.row refl refl (λ m ne. others_stay h.table h.row a.number m a.holds ne)
       (rw it.number (alone t agrees p used it.task it.stands)) (Kept h.row) (Some it.task)
       (it.number, subst (λ m. has_unspent m h.row (without_hold h.table h.row a.holds) ≡ false) table (spent_gone h.table h.row a.holds))
-      (subst (λ xs. Reordered (claims_of demand xs) a.rows) (sym (there t agrees p used it.task it.stands)) agrees.rows_are) (with_kept_sound a agrees.sound h)))
+      (subst (λ xs. IsPermutation (claims_of demand xs) a.rows) (sym (there t agrees p used it.task it.stands)) agrees.rows_are) (with_kept_sound a agrees.sound h)))
 
   -- the hold of a row that is held here is spent, and the row goes out
   pub row_released : (u : Table K) (h : Hold) (p : ℕ) → h.table ≡ t.number → AtLow t (λ s. s ≡ Held h.row) p → PutAt t u p Free None → AgreesWith demand (with_released a h) u

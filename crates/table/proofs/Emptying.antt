@@ -7,7 +7,7 @@ use Rattle.std.proofs.lemmas.Slice.{drop-append-drop}
 use Rattle.demand.specs.Demand.{Demand}
 use Rattle.analysis.specs.declared.Task.{Task}
 use Rattle.analysis.specs.Candidates.{claims_of}
-use Rattle.analysis.specs.Ranks.{same}
+use Rattle.std.proofs.lemmas.List.Sorted.{IsPermutation-refl}
 use Rattle.table.specs.declared.state.State.{State}
 use Rattle.table.specs.declared.state.State.TheVariants.{Free}
 use Rattle.table.specs.Account.{fresh_account}
@@ -45,7 +45,7 @@ fresh_agrees demand number states places long free empty = record {
   number_is = refl;
   states_are = long;
   room_is = refl;
-  rows_are = rw (no_claims demand 12 places empty) same;
+  rows_are = rw (no_claims demand 12 places empty) (IsPermutation-refl []);
   at_each = λ i l. subst₂ (StandsAt (fresh_account number (min (length places) 12))) (sym (free i l)) (sym (get_or-take 12 places i None l ∙ empty i l)) tt;
   sound = fresh_sound number (min (length places) 12);
 }

@@ -14,7 +14,7 @@ use Rattle.analysis.specs.declared.Task.{Task}
 use Rattle.analysis.specs.Candidates.{claims_of}
 use Rattle.analysis.specs.Judge.{Answered, bounds_of, vectors_of}
 use Rattle.analysis.specs.Plans.{Bounds, BestPlan}
-use Rattle.analysis.specs.Ranks.{Claim, ranking, loads, at, system, system_of}
+use Rattle.analysis.specs.Ranks.{Claim, ranking, loads, load_at, system, system_of}
 use Rattle.analysis.proofs.AnyOrder.{any_order}
 use Rattle.analysis.proofs.Best.{best_plan}
 use Rattle.table.specs.declared.refusals.BoundRefusal.{BoundRefusal}
@@ -30,9 +30,10 @@ use Rattle.table.specs.Runs.{Event, holding, bounding, LateWithoutPlan, Run, Sta
 use Rattle.table.proofs.Kept.{sound as sound_after}
 use Rattle.table.proofs.Lookups.{task_at}
 use Rattle.table.proofs.Members.{standing, held_unspent}
-use Rattle.table.proofs.Parts.{first_or_later, is_first, is_later, no_number, pairs_head, pairs_tail, unspent_row}
+use Rattle.analysis.proofs.Reordered.{pairs_head, pairs_tail}
+use Rattle.table.proofs.Parts.{first_or_later, is_first, is_later, no_number, unspent_row}
 use Rattle.table.proofs.Promise.{bound_given, bound_once, late_only, rank_of_row, run_before, same_number, step_after}
-use Rattle.table.proofs.Shared.{all_ranks, contains_reordered, length_ranks, length_reordered, needs_grow, none_named_at, number_reordered, numbers_reordered, reordered_back}
+use Rattle.table.proofs.Shared.{all_ranks, contains_permuted, length_ranks, length_permuted, needs_grow, none_named_at, number_permuted, numbers_permuted, permuted_back}
 use Rattle.table.proofs.Spending.{is_held_there}
 
 -- a call that turns each account that agrees with t into one that agrees with u continues each history of t
@@ -152,10 +153,10 @@ module _ {K : Type 0} (demand : K → Demand) (es : List Event) (t : Table K) (h
   sound = h.agrees.sound
 
   same_ranks : ranking (rows_at demand t) ≡ ranking a.rows
-  same_ranks = any_order a.rows (rows_at demand t) (reordered_back h.agrees.rows_are) sound.priorities
+  same_ranks = any_order a.rows (rows_at demand t) (permuted_back h.agrees.rows_are) sound.priorities
 
   same_length : length (rows_at demand t) ≡ length a.rows
-  same_length = length_reordered h.agrees.rows_are
+  same_length = length_permuted h.agrees.rows_are
 
   -- what stands at a place that is used
   task_there : (p : ℕ) (c : Claim) (r : RowAt demand t p c) → task_at t p ≡ Some r.task
@@ -183,8 +184,8 @@ module _ {K : Type 0} (demand : K → Demand) (es : List Event) (t : Table K) (h
         subst (λ (cs : List Claim). BestPlan (system (loads cs)) R V) (sym same_ranks)
         (best_plan (system_of a.rows) (needs_grow a.rows sound.lawful) R V (all_ranks a.rows (record { R = R; V = V; bounds = bounds })))
 
-    module _ (c : Claim) (k : ℕ) (within : k < length a.rows) (is : (at (loads (ranking a.rows)) k).claim ≡ c) where
-      number : (at (loads (ranking a.rows)) k).claim.row.number ≡ number_of c
+    module _ (c : Claim) (k : ℕ) (within : k < length a.rows) (is : (load_at (loads (ranking a.rows)) k).claim ≡ c) where
+      number : (load_at (loads (ranking a.rows)) k).claim.row.number ≡ number_of c
       number = ap number_of is
 
       answered_so : BoundsAnswered a (number_of c) (Ok (R k, V k))
@@ -212,7 +213,7 @@ module _ {K : Type 0} (demand : K → Demand) (es : List Event) (t : Table K) (h
     each_bound : (p : ℕ) (c : Claim) → RowAt demand t p c → (k : ℕ) × HasRank demand t c k × JustBound demand es t (number_of c) (R k, V k)
     each_bound p c r =
         let found = rank_of_row (rows_at demand t) c (among_rows p c r) in
-        let is : (at (loads (ranking a.rows)) found.0).claim ≡ c = subst (λ (cs : List Claim). (at (loads cs) found.0).claim ≡ c) same_ranks found.2 in
+        let is : (load_at (loads (ranking a.rows)) found.0).claim ≡ c = subst (λ (cs : List Claim). (load_at (loads cs) found.0).claim ≡ c) same_ranks found.2 in
         (found.0, record { within = found.1; claim = found.2 }, just c found.0 (omega (arith, found.1, same_length)) is)
 
   late_then : (later : List Event) (c : Claim) (r : Result Hold HoldRefusal) (earlier : List Event) → es ≡ later ++ holding c r ∷ earlier → LateWithoutPlan (account_of earlier t) c r
@@ -223,9 +224,9 @@ module _ {K : Type 0} (demand : K → Demand) (es : List Event) (t : Table K) (h
   rows_stand : (c : Claim) → ((p : ℕ) × RowAt demand t p c) ↔ Stands c es
   rows_stand c =
       let same = standing t.number (min (length t.places.now) 12) c es h.answered in (
-        λ x. same.0 (contains_reordered c h.agrees.rows_are (among_rows x.0 c x.1)),
+        λ x. same.0 (contains_permuted c h.agrees.rows_are (among_rows x.0 c x.1)),
         λ s.
-            let f = claim_found demand (take 12 t.places.now) c (contains_reordered c (reordered_back h.agrees.rows_are) (same.1 s)) in
+            let f = claim_found demand (take 12 t.places.now) c (contains_permuted c (permuted_back h.agrees.rows_are) (same.1 s)) in
             (f.place, subst (RowAt demand t f.place) (sym f.holds) (found_at (λ u. c ≡ claim demand u) f)),
       )
 
@@ -235,7 +236,7 @@ module _ {K : Type 0} (demand : K → Demand) (es : List Event) (t : Table K) (h
         λ x. same.0 (unspent_among a.number n a.holds (held_unspent_there a x.row.task n (get_or t.states x.place Free) x.state (stands_there x.place x.claim x.row))),
         λ s.
             let unspent_is = among_unspent a.number n a.holds (same.1 s) in
-            let f = number_found demand (take 12 t.places.now) n (number_reordered n h.agrees.rows_are ∙ unspent_row a.number a.rows a.number n a.holds sound.holds unspent_is) in
+            let f = number_found demand (take 12 t.places.now) n (number_permuted n h.agrees.rows_are ∙ unspent_row a.number a.rows a.number n a.holds sound.holds unspent_is) in
             let r = found_at (λ u. u.row.number ≡ n) f in
             record {
               place = f.place;
@@ -260,7 +261,7 @@ module _ {K : Type 0} (demand : K → Demand) (es : List Event) (t : Table K) (h
     held_or_kept = λ p c r.
         subst (λ (n : ℕ). (get_or t.states p Free ≡ Held n) ⊎ (get_or t.states p Free ≡ Kept n)) (sym (number_is p c r)) (held_or_kept a r.task (get_or t.states p Free) (stands_there p c r));
     one_row = λ p q c d r s e.
-        one_place demand (take 12 t.places.now) (numbers_reordered (reordered_back h.agrees.rows_are) sound.numbers) p q r.task s.task (task_there p c r) (task_there q d s) (sym (number_is p c r) ∙ e ∙ number_is q d s);
+        one_place demand (take 12 t.places.now) (numbers_permuted (permuted_back h.agrees.rows_are) sound.numbers) p q r.task s.task (task_there p c r) (task_there q d s) (sym (number_is p c r) ∙ e ∙ number_is q d s);
   }
 
   -- with the answers for all rows it is the promise with theirs

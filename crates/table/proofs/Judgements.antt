@@ -12,7 +12,10 @@ use Rattle.analysis.specs.Candidates.{claims_of, claims}
 use Rattle.analysis.specs.declared.Answer.{Answer}
 use Rattle.analysis.specs.declared.Row.{Row}
 use Rattle.analysis.specs.Plans.{Bounds, NoPlan}
-use Rattle.analysis.specs.Ranks.{Claim, Reordered, next, through, ranking, rows, loads_of, loads, at, system, system_of}
+use Rattle.std.specs.Prelude.{IsPermutation}
+use Rattle.std.proofs.lemmas.List.Sorted.{IsPermutation-to_front}
+use Rattle.std.proofs.lemmas.List.Kept.{AllPairs-cons}
+use Rattle.analysis.specs.Ranks.{Claim, ranking, rows, loads_of, loads, load_at, system, system_of}
 use Rattle.table.specs.declared.Table.{Table}
 use Rattle.table.specs.Account.{Account, has_number, hold_checks, AllInTime, BoundsAnswered}
 use Rattle.table.specs.declared.refusals.BoundRefusal.TheVariants.{NoSuchRow}
@@ -23,14 +26,14 @@ use Rattle.analysis.specs.declared.judgement.JudgeRefusal.{JudgeRefusal}
 use Rattle.table.specs.History.{rows_at}
 use Rattle.analysis.specs.Judge.{judge_number, judge_late, JudgementRefused, Judged, InTime, LateRow, SomeLate, Answered, answers_of, no_answer, bounds_of, vectors_of}
 use Rattle.analysis.proofs.AnyOrder.{any_order}
-use Rattle.analysis.proofs.Order.{to_front, highest_first}
+use Rattle.analysis.proofs.Order.{highest_first}
 use Rattle.analysis.proofs.Ranked.{claims_append, length_ranked}
 use Rattle.table.proofs.Checks.{absent_applies, is_absent}
 use Rattle.table.proofs.Lookups.{tasks, claims_at_most}
-use Rattle.table.proofs.Shared.{reordered_back, length_reordered, number_reordered, passed, length_ranks, has_plan}
+use Rattle.table.proofs.Shared.{permuted_back, permuted_next, permuted_through, length_permuted, number_permuted, passed, length_ranks, has_plan}
 
 -- where no rank has the number, no row has it
-none_numbered : (n : ℕ) (all : List Row) (cs : List Claim) → ((k : ℕ) → k < length cs → (at (loads_of all cs) k).claim.row.number ≢ n) → has_number n cs ≡ false
+none_numbered : (n : ℕ) (all : List Row) (cs : List Claim) → ((k : ℕ) → k < length cs → (load_at (loads_of all cs) k).claim.row.number ≢ n) → has_number n cs ≡ false
 none_numbered n all [] h = refl
 none_numbered n all (c ∷ cs) h = grind (arith, nat_tests, h 0, none_numbered n all cs (λ k l. h (suc k) (omega arith)))
 
@@ -75,22 +78,22 @@ module _ {K : Type 0} {demand : K → Demand} {a : Account} (t : Table K) (agree
   same_claims : claims demand (tasks t) None ≡ claims_of demand (tasks t)
   same_claims = no_newcomer demand (tasks t)
 
-  rows_reordered : Reordered a.rows (claims demand (tasks t) None)
-  rows_reordered = subst (Reordered a.rows) (sym same_claims) (reordered_back agrees.rows_are)
+  rows_permuted : IsPermutation a.rows (claims demand (tasks t) None)
+  rows_permuted = subst (IsPermutation a.rows) (sym same_claims) (permuted_back agrees.rows_are)
 
   same_ranked : ranking (claims demand (tasks t) None) ≡ ranking a.rows
-  same_ranked = any_order a.rows (claims demand (tasks t) None) rows_reordered agrees.sound.priorities
+  same_ranked = any_order a.rows (claims demand (tasks t) None) rows_permuted agrees.sound.priorities
 
-  newcomer_reordered : (u : Task K) → Reordered (claim_of_task u ∷ a.rows) (claims demand (tasks t) (Some u))
-  newcomer_reordered u =
-      let front : Reordered (claims_of demand (tasks t) ++ claim_of_task u ∷ []) (claim_of_task u ∷ claims_of demand (tasks t)) = subst (λ (xs : List Claim). Reordered (claims_of demand (tasks t) ++ claim_of_task u ∷ []) (claim_of_task u ∷ xs)) (append-nil (claims_of demand (tasks t))) (to_front (claims_of demand (tasks t)) (claim_of_task u) []) in
-      subst (Reordered (claim_of_task u ∷ a.rows)) (sym (claims_append demand (tasks t) (Some u ∷ [])))
-      (reordered_back (through front (next agrees.rows_are)))
+  newcomer_permuted : (u : Task K) → IsPermutation (claim_of_task u ∷ a.rows) (claims demand (tasks t) (Some u))
+  newcomer_permuted u =
+      let front : IsPermutation (claims_of demand (tasks t) ++ claim_of_task u ∷ []) (claim_of_task u ∷ claims_of demand (tasks t)) = IsPermutation-to_front (claims_of demand (tasks t)) (claim_of_task u) in
+      subst (IsPermutation (claim_of_task u ∷ a.rows)) (sym (claims_append demand (tasks t) (Some u ∷ [])))
+      (permuted_back (permuted_through front (permuted_next (claim_of_task u) agrees.rows_are)))
 
   newcomer_ranked : (u : Task K) → first (hold_checks a (claim_of_task u)) ≡ 0 → ranking (claims demand (tasks t) (Some u)) ≡ ranking (claim_of_task u ∷ a.rows)
   newcomer_ranked u passes =
-      any_order (claim_of_task u ∷ a.rows) (claims demand (tasks t) (Some u)) (newcomer_reordered u)
-      ((passed a (claim_of_task u) passes).priority, agrees.sound.priorities)
+      any_order (claim_of_task u ∷ a.rows) (claims demand (tasks t) (Some u)) (newcomer_permuted u)
+      (AllPairs-cons (λ c d. c.row.priority ≢ d.row.priority) (claim_of_task u) a.rows (passed a (claim_of_task u) passes).priority agrees.sound.priorities)
 
   -- a newcomer that passes the checks is late or in time with the account's rows as with the table's
   pub newcomer_late : (u : Task K) → first (hold_checks a (claim_of_task u)) ≡ 0 → (n : ℕ) → SomeLate (claims demand (tasks t) (Some u)) n → LateRow (loads (ranking (claim_of_task u ∷ a.rows))) n
@@ -98,7 +101,7 @@ module _ {K : Type 0} {demand : K → Demand} {a : Account} (t : Table K) (agree
 
   pub newcomer_in_time : (u : Task K) → first (hold_checks a (claim_of_task u)) ≡ 0 → (answers : Answers) → Judged (claims demand (tasks t) (Some u)) (Ok answers) → AllInTime (claim_of_task u ∷ a.rows)
   newcomer_in_time u passes answers judged =
-      let count : length (loads (ranking (claims demand (tasks t) (Some u)))) ≡ length (claim_of_task u ∷ a.rows) = length_ranks (claims demand (tasks t) (Some u)) ∙ sym (length_reordered (newcomer_reordered u)) in
+      let count : length (loads (ranking (claims demand (tasks t) (Some u)))) ≡ length (claim_of_task u ∷ a.rows) = length_ranks (claims demand (tasks t) (Some u)) ∙ sym (length_permuted (newcomer_permuted u)) in
       record {
         R = bounds_of (answers_of answers);
         V = vectors_of (answers_of answers);
@@ -115,16 +118,16 @@ module _ {K : Type 0} {demand : K → Demand} {a : Account} (t : Table K) (agree
   never_too_many u passes many =
       let room = (passed a (claim_of_task u) passes).room in
       let few = agrees.room_is in
-      let count = length_reordered (newcomer_reordered u) in
+      let count = length_permuted (newcomer_permuted u) in
       omega arith
 
   -- the account's rows are in time, so they are never refused
   pub never_refused : (number late : ℕ) → JudgementRefused (claims demand (tasks t) None) number late → ⊥
   never_refused number late (inl many) =
       let over = many.2 in
-      let count = length_reordered rows_reordered in
+      let count = length_permuted rows_permuted in
       let few = claims_at_most demand (tasks t) in
-      let all = length_reordered agrees.rows_are in
+      let all = length_permuted agrees.rows_are in
       let twelve = length-take 12 t.places.now in
       omega arith
   never_refused number late (inr some) =
@@ -158,7 +161,7 @@ module _ (a : Account) (answers : List Answer) (ranks : Answered (loads (ranking
       let ranked_count = length_ranked a.rows in
       let many = ranks.count in
       absent_applies (has_number n a.rows)
-      (number_reordered n (highest_first a.rows).reordered
+      (number_permuted n (highest_first a.rows).reordered
       ∙ none_numbered n (rows (ranking a.rows)) (ranking a.rows) (λ k l e. no_answer_at n answers (sym found) k (omega arith) ((ranks.rows k (omega arith)).number ∙ e)))
 
 -- an account has no row of a number that is not found among the answers

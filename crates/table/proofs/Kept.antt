@@ -8,23 +8,24 @@ use Rattle.demand.specs.Refusals.{first}
 use Rattle.analysis.specs.Ranks.{Claim}
 use Rattle.analysis.proofs.Removal.{removal_keeps_in_time}
 use Rattle.table.specs.declared.hold.Hold.{Hold}
+use Rattle.analysis.proofs.Order.{lawful_ranking}
 use Rattle.table.specs.Account.{Account, Bears, bears, AllInTime, fresh_account, number_of, has_number, hold_checks, has_unspent, has_hold_on, without_hold, without_row, with_row, with_kept, with_withdrawn}
 use Rattle.table.specs.Agreement.{Sound, OwnHolds}
 use Rattle.table.specs.Runs.{Event, holding, keeping, releasing, withdrawing, bounding, Step, after_all, Run}
 use Rattle.table.proofs.Checks.{is_unspent, not_held}
-use Rattle.table.proofs.Shared.{passed, ranked_lawful}
-use Rattle.table.proofs.Parts.{without_some, priorities_kept, other_numbers, own_more, own_without, own_released, unspent_own}
+use Rattle.table.proofs.Shared.{passed}
+use Rattle.table.proofs.Parts.{without_some, other_numbers, own_more, own_without, own_released, unspent_own}
 
 still_in_time : (n : ℕ) (a : Account) → Sound a → AllInTime (without_row n a.rows)
 still_in_time n a s =
-    let left = removal_keeps_in_time a.rows (ranked_lawful a.rows s.lawful) s.in_time.R s.in_time.V s.in_time.bounds s.priorities (without_row n a.rows) (without_some n a.rows) in
+    let left = removal_keeps_in_time a.rows (lawful_ranking a.rows s.lawful) s.in_time.R s.in_time.V s.in_time.bounds s.priorities (without_row n a.rows) (without_some n a.rows) in
     record { R = left.Q; V = left.W; bounds = left.bounds }
 
 pub fresh_sound : (number room : ℕ) → Sound (fresh_account number room)
 fresh_sound number room =
     record {
       numbers = λ i j d l m. absurd (not-suc-le-zero m);
-      priorities = tt;
+      priorities = λ i j d l m. absurd (not-suc-le-zero m);
       lawful = All-nil (λ c. Lawful c.demand);
       in_time = record { R = λ k. 0; V = λ k. 0; bounds = λ k h. absurd (not-suc-le-zero h) };
       holds = λ k d l. absurd (not-suc-le-zero l);
@@ -35,7 +36,7 @@ with_row_sound a s c lawful passes in_time =
     let new = passed a c passes in
     record {
       numbers = AllPairs-cons (λ c d. number_of c ≢ number_of d) c a.rows (other_numbers (number_of c) a.rows new.number) s.numbers;
-      priorities = (new.priority, s.priorities);
+      priorities = AllPairs-cons (λ c d. c.row.priority ≢ d.row.priority) c a.rows new.priority s.priorities;
       lawful = All-cons (λ c. Lawful c.demand) c a.rows lawful s.lawful;
       in_time = in_time;
       holds =
@@ -59,7 +60,7 @@ out_sound : (a : Account) → Sound a → (n : ℕ) (hs : List Bears) → OwnHol
 out_sound a s n hs own =
     record {
       numbers = AllPairs-filter (λ c d. number_of c ≢ number_of d) (λ c. not (number_of c == n)) a.rows s.numbers;
-      priorities = priorities_kept (without_some n a.rows) s.priorities;
+      priorities = AllPairs-filter (λ c d. c.row.priority ≢ d.row.priority) (λ c. not (number_of c == n)) a.rows s.priorities;
       lawful = All-filter (λ c. not (number_of c == n)) (λ c. Lawful c.demand) a.rows s.lawful;
       in_time = still_in_time n a s;
       holds = own;

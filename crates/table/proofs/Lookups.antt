@@ -21,7 +21,7 @@ use Rattle.table.specs.declared.Table.{Table}
 use Rattle.table.specs.Account.{Account, has_number, has_priority}
 use Rattle.table.specs.Agreement.{AgreesWith, StandsAt}
 use Rattle.table.specs.Places.{names, At, PlaceWhere}
-use Rattle.table.proofs.Shared.{length_reordered, number_reordered, priority_reordered}
+use Rattle.table.proofs.Shared.{length_permuted, number_permuted, priority_permuted}
 
 -- the tasks at the places that a table uses
 abbrev pub tasks : {K : Type 0} → Table K → List (Option (Task K))
@@ -109,7 +109,7 @@ module _ {K : Type 0} {demand : K → Demand} {a : Account} (t : Table K) (agree
   pub number_found : (n : ℕ) (r : Option ℕ) → LowWhere t (λ s. names s n ≡ true) r → is_some r ≡ has_number n a.rows
   number_found n r f =
       found (λ s. names s n ≡ true) (λ os. has_number n (claims_of demand os)) (named n) refl (named_more demand n) (λ s o h e. sym (names_task a n s o h) ∙ e) (λ s o h e. names_task a n s o h ∙ e) r (used_where r f)
-      ∙ number_reordered n agrees.rows_are
+      ∙ number_permuted n agrees.rows_are
     where
       used_at : (p : ℕ) → (o : Option (Task K)) → task_at t p ≡ o → named n o ≡ true → p < length t.places.now
       used_at p None e named = cc
@@ -126,14 +126,14 @@ module _ {K : Type 0} {demand : K → Demand} {a : Account} (t : Table K) (agree
   number_found_within n (Some p) f = number_found n (Some p) (f.0, f.2)
 
   pub priority_found : (p : ℕ) → has_priority p (claims_of demand (tasks t)) ≡ has_priority p a.rows
-  priority_found p = priority_reordered p agrees.rows_are
+  priority_found p = priority_permuted p agrees.rows_are
 
   -- a place is free exactly where the account has room
   pub place_free : (r : Option ℕ) → PlaceWhere t (λ s. s ≡ Free) r → leb a.room (length a.rows) ≡ not (is_some r)
   place_free r f =
       let room : length (tasks t) ≡ a.room = omega (arith, length-take 12 t.places.now, agrees.room_is) in
       not_below (length a.rows) a.room
-      ∙ ap not (sym (found (λ s. s ≡ Free) (λ os. ltb (length (claims_of demand os)) (length os)) is_none refl step (λ s o h e. grind arith) (λ s o h e. grind arith) r f ∙ rw (room, length_reordered agrees.rows_are)))
+      ∙ ap not (sym (found (λ s. s ≡ Free) (λ os. ltb (length (claims_of demand os)) (length os)) is_none refl step (λ s o h e. grind arith) (λ s o h e. grind arith) r f ∙ rw (room, length_permuted agrees.rows_are)))
     where
       step : (o : Option (Task K)) (os : List (Option (Task K))) → ltb (length (claims_of demand (o ∷ os))) (length (o ∷ os)) ≡ (is_none o || ltb (length (claims_of demand os)) (length os))
       step None os = lt-ltb (length (claims_of demand os)) (length (None ∷ os)) (let l = claims_at_most demand os in omega arith)
@@ -141,7 +141,7 @@ module _ {K : Type 0} {demand : K → Demand} {a : Account} (t : Table K) (agree
 
   -- as many rows can enter as places are empty
   pub room_left : length (filter is_none (tasks t)) + length a.rows ≡ a.room
-  room_left = omega (arith, vacant demand (tasks t), length_reordered agrees.rows_are, length-take 12 t.places.now, agrees.room_is)
+  room_left = omega (arith, vacant demand (tasks t), length_permuted agrees.rows_are, length-take 12 t.places.now, agrees.room_is)
 
 -- what a place gives where its tasks are gone through: its task, if it has one
 pub given_at : {A : Type 0} (s : OptionIter A) (o : Option A) → option_iter_item s ≡ o → option_iter_done s ≡ false → YieldsList option_iter_steps (λ x. x.now) s (option_to_list o)

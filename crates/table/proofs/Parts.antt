@@ -1,27 +1,19 @@
 -- Rows and holds that are taken out of a list, by their numbers. Assumes nothing.
-use Rattle.std.proofs.Common.{◌≡◌, ◌<◌, ℕ, zero, suc, true, false, not, eqb, ◌≢◌, ◌⊎◌, inl, inr, Bool, List, [], ◌∷◌, length, get_or, sym, refl, ap, ◌∙◌, subst, arith}
-use Rattle.std.specs.Prelude.{All, AllPairs, Contains}
+use Rattle.std.proofs.Common.{◌≡◌, ◌<◌, ℕ, zero, suc, true, false, not, eqb, ◌≢◌, ◌⊎◌, inl, inr, Bool, List, [], ◌∷◌, length, get_or, sym, refl, ◌∙◌, subst, arith}
+use Rattle.std.specs.Prelude.{All, Contains}
 use Rattle.std.specs.List.{filter, list_any}
-use Rattle.std.proofs.lemmas.List.Elements.{Contains-append_cases, All-contains, All-contains_itself, All-filter, All-head, All-tail, All-weaker, filter_passes}
+use Rattle.std.proofs.lemmas.List.Elements.{Contains-append_cases, All-contains, All-contains_itself, All-filter, All-weaker, filter_passes}
 use Rattle.std.proofs.lemmas.List.Folds.{Any-from_list_any, list_any_at, list_any_none}
 use Rattle.std.proofs.lemmas.List.Sorted.{Contains-permutation, IsPermutation-filter_both}
 use Rattle.std.proofs.lemmas.Bool.Decides.{nat_tests}
 use Rattle.std.proofs.lemmas.Bool.{and_parts, both_ways, cond_both, eq-eqb, eqb-true, false_from_ne_true, not-true, or_right}
-use Rattle.demand.specs.Demand.{Lawful}
-use Rattle.analysis.specs.Ranks.{Claim, NoneAt, DistinctPriorities}
+use Rattle.analysis.specs.Ranks.{Claim}
 use Rattle.analysis.specs.Removal.{SomeOf, none, keep, leave}
-use Rattle.analysis.proofs.Lawful.{AllLawful}
 use Rattle.table.specs.Account.{Bears, bears, number_of, has_number, has_priority, has_unspent, has_hold_on, without_hold, without_row}
-use Rattle.table.specs.Agreement.{LawfulRows, OwnHolds}
+use Rattle.table.specs.Agreement.{OwnHolds}
 
 -- lists of anything
 module _ {A : Type 0} where
-  pub pairs_head : (R : A → A → Type 0) (x : A) (xs : List A) → AllPairs R (x ∷ xs) → All (R x) xs
-  pairs_head R x xs p k d l = p zero (suc k) d (omega arith) (omega arith)
-
-  pub pairs_tail : (R : A → A → Type 0) (x : A) (xs : List A) → AllPairs R (x ∷ xs) → AllPairs R xs
-  pairs_tail R x xs p i j d l m = p (suc i) (suc j) d (omega arith) (omega arith)
-
   pub is_first : {x y : A} (ys : List A) → y ≡ x → Contains (y ∷ ys) x
   is_first ys e = (0, omega arith, e)
 
@@ -59,28 +51,15 @@ without_some n (c ∷ cs) =
     let rest = without_some n cs in
     cond_both (not (eqb (number_of c) n)) (c ∷ without_row n cs) (without_row n cs) (λ xs. SomeOf ◌≡◌ xs (c ∷ cs)) (λ _. keep refl rest) (λ _. leave rest)
 
-none_at_kept : (p : ℕ) {xs ys : List Claim} → SomeOf ◌≡◌ xs ys → NoneAt p ys → NoneAt p xs
-none_at_kept p none h = tt
-none_at_kept p (keep e s) h = (λ q. h.0 (ap (λ (c : Claim). c.row.priority) (sym e) ∙ q), none_at_kept p s h.1)
-none_at_kept p (leave s) h = none_at_kept p s h.1
+-- where no row has the number n by `by`, that of each is another
+pub others_differ : (by : Claim → ℕ) (n : ℕ) (cs : List Claim) → list_any (λ c. eqb (by c) n) cs ≡ false → All (λ c. n ≢ by c) cs
+others_differ by n cs e = All-weaker (λ c. eqb (by c) n ≡ false) (λ c. n ≢ by c) (λ c q same. both_ways (eqb (by c) n) q (eq-eqb (by c) n (sym same))) cs (none_passes (λ c. eqb (by c) n) cs e)
 
-pub priorities_kept : {xs ys : List Claim} → SomeOf ◌≡◌ xs ys → DistinctPriorities ys → DistinctPriorities xs
-priorities_kept none d = tt
-priorities_kept (keep {a = a} {b = b} {xs = xs} e s) d =
-    (subst (λ (m : ℕ). NoneAt m xs) (sym (ap (λ (c : Claim). c.row.priority) e)) (none_at_kept b.row.priority s d.0), priorities_kept s d.1)
-priorities_kept (leave s) d = priorities_kept s d.1
-
-pub all_lawful : (cs : List Claim) → LawfulRows cs → AllLawful cs
-all_lawful [] h = tt
-all_lawful (c ∷ cs) h = (All-head (λ d. Lawful d.demand) c cs h, all_lawful cs (All-tail (λ d. Lawful d.demand) c cs h))
-
-pub none_at : (p : ℕ) (cs : List Claim) → has_priority p cs ≡ false → NoneAt p cs
-none_at p [] e = tt
-none_at p (c ∷ cs) e = grind (arith, nat_tests, none_at p cs)
-
--- a number that no row has is none of theirs
 pub other_numbers : (n : ℕ) (cs : List Claim) → has_number n cs ≡ false → All (λ c. n ≢ number_of c) cs
-other_numbers n cs e k d l q = both_ways (eqb (number_of (get_or cs k d)) n) (none_passes (λ c. eqb (number_of c) n) cs e k d l) (eq-eqb (number_of (get_or cs k d)) n (sym q))
+other_numbers = others_differ number_of
+
+pub other_priorities : (p : ℕ) (cs : List Claim) → has_priority p cs ≡ false → All (λ c. p ≢ c.row.priority) cs
+other_priorities = others_differ (λ c. c.row.priority)
 
 -- and one that is none of theirs no row has
 pub no_number : (n : ℕ) (cs : List Claim) → All (λ c. n ≢ number_of c) cs → has_number n cs ≡ false

@@ -1,9 +1,8 @@
 -- Rows in another order, checks of which none applies, rows that are in time, and places. Assumes nothing.
 use Rattle.std.proofs.Common.{◌≡◌, ℕ, zero, suc, ◌<◌, ◌≤◌, Bool, true, false, cond, ◌||◌, eqb, ltb, ◌≢◌, List, [], ◌∷◌, length, get_or, Some, None, Option, sym, refl, ap, ◌∙◌, subst, arith}
-use Rattle.std.specs.Prelude.{All, AllPairs, Contains}
+use Rattle.std.specs.Prelude.{All, Contains, IsPermutation}
+use Rattle.std.proofs.lemmas.List.Sorted.{Contains-permutation, IsPermutation-cons, IsPermutation-sym, IsPermutation-trans, length_permutation}
 use Rattle.std.specs.List.{filter, list_any}
-use Rattle.std.proofs.lemmas.List.Elements.{All-cons, All-contains, All-contains_itself, All-head, All-tail}
-use Rattle.std.proofs.lemmas.List.Kept.{AllPairs-cons}
 use Rattle.std.proofs.lemmas.Bool.Decides.{nat_tests}
 use Rattle.std.proofs.lemmas.Bool.{leb-false, ltb-false, or_parts}
 use Rattle.demand.specs.Demand.{Demand}
@@ -12,31 +11,32 @@ use Rattle.analysis.specs.declared.Row.{Row}
 use Rattle.analysis.specs.declared.Task.{Task}
 use Rattle.analysis.specs.Candidates.{claims_of}
 use Rattle.analysis.specs.Plans.{Bounds, NoPlan}
-use Rattle.analysis.specs.Ranks.{Claim, Reordered, same, next, swapped, through, NoneAt, ranking, rows, loads_of, loads, system_of}
+use Rattle.analysis.specs.Ranks.{Claim, ranking, rows, loads_of, loads, system_of}
 use Rattle.analysis.proofs.Best.{Grows, is_plan}
-use Rattle.analysis.proofs.Lawful.{AllLawful, grows, lawful_loads}
-use Rattle.analysis.proofs.Order.{highest_first, lawful_reordered, reordered_append}
+use Rattle.analysis.proofs.Lawful.{grows, lawful_loads}
+use Rattle.analysis.proofs.Order.{lawful_ranking}
+use Rattle.analysis.proofs.Reordered.{Reordered, same, next, swapped, through, reordered_refl, reordered_is_permutation, permutation_is_reordered, pairs_permuted}
 use Rattle.analysis.proofs.Ranked.{length_ranked}
 use Rattle.table.specs.declared.refusals.HoldRefusal.{HoldRefusal}
 use Rattle.table.specs.declared.state.State.{State}
 use Rattle.table.specs.Account.{Account, number_of, has_number, has_priority, is_no_number, is_no_priority, hold_checks, hold_number, has_unspent, AllInTime}
 use Rattle.table.specs.Agreement.{DistinctNumbers, LawfulRows, StandsAt}
-use Rattle.table.proofs.Parts.{all_lawful, none_at, pairs_head, pairs_tail}
+use Rattle.table.proofs.Parts.{other_priorities}
 
-pub reordered_refl : {A : Type 0} (xs : List A) → Reordered xs xs
-reordered_refl xs = reordered_append xs same
+pub permuted_back : {A : Type 0} {xs ys : List A} → IsPermutation xs ys → IsPermutation ys xs
+permuted_back {xs = xs} {ys = ys} = IsPermutation-sym xs ys
 
-pub reordered_back : {A : Type 0} {xs ys : List A} → Reordered xs ys → Reordered ys xs
-reordered_back same = same
-reordered_back (next r) = next (reordered_back r)
-reordered_back swapped = swapped
-reordered_back (through r q) = through (reordered_back q) (reordered_back r)
+pub permuted_through : {A : Type 0} {xs ys zs : List A} → IsPermutation xs ys → IsPermutation ys zs → IsPermutation xs zs
+permuted_through {xs = xs} {ys = ys} {zs = zs} = IsPermutation-trans xs ys zs
 
-pub length_reordered : {A : Type 0} {xs ys : List A} → Reordered xs ys → length xs ≡ length ys
-length_reordered same = refl
-length_reordered (next r) = ap suc (length_reordered r)
-length_reordered swapped = refl
-length_reordered (through r q) = length_reordered r ∙ length_reordered q
+pub length_permuted : {A : Type 0} {xs ys : List A} → IsPermutation xs ys → length xs ≡ length ys
+length_permuted {xs = xs} {ys = ys} p = sym (length_permutation xs ys p)
+
+pub permuted_next : {A : Type 0} (a : A) {xs ys : List A} → IsPermutation xs ys → IsPermutation (a ∷ xs) (a ∷ ys)
+permuted_next a {xs = xs} {ys = ys} = IsPermutation-cons a xs ys
+
+pub contains_permuted : {A : Type 0} (x : A) {xs ys : List A} → IsPermutation xs ys → Contains xs x → Contains ys x
+contains_permuted x {xs = xs} {ys = ys} = Contains-permutation xs ys x
 
 or_swap : (x y z : Bool) → (x || (y || z)) ≡ (y || (x || z))
 or_swap x y z = grind arith
@@ -49,7 +49,7 @@ any_reordered test (swapped {a = a} {b = b} {xs = xs}) = or_swap (test a) (test 
 any_reordered test (through r q) = any_reordered test r ∙ any_reordered test q
 
 -- those that pass a test are the same in another order
-pub filter_reordered : {A : Type 0} (test : A → Bool) {xs ys : List A} → Reordered xs ys → Reordered (filter test xs) (filter test ys)
+filter_reordered : {A : Type 0} (test : A → Bool) {xs ys : List A} → Reordered xs ys → Reordered (filter test xs) (filter test ys)
 filter_reordered test same = same
 filter_reordered test (next {a = a} {xs = xs} {ys = ys} r) = go (test a) (filter_reordered test r)
   where
@@ -65,37 +65,18 @@ filter_reordered {A = A} test (swapped {a = a} {b = b} {xs = xs}) = go (test a) 
     go false false zs = reordered_refl zs
 filter_reordered test (through r q) = through (filter_reordered test r) (filter_reordered test q)
 
+pub filter_permuted : {A : Type 0} (test : A → Bool) {xs ys : List A} → IsPermutation xs ys → IsPermutation (filter test xs) (filter test ys)
+filter_permuted test p = reordered_is_permutation (filter_reordered test (permutation_is_reordered p))
+
 -- the order of the rows does not matter
-pub number_reordered : (n : ℕ) {xs ys : List Claim} → Reordered xs ys → has_number n xs ≡ has_number n ys
-number_reordered n = any_reordered (λ c. eqb (number_of c) n)
+pub number_permuted : (n : ℕ) {xs ys : List Claim} → IsPermutation xs ys → has_number n xs ≡ has_number n ys
+number_permuted n p = any_reordered (λ c. eqb (number_of c) n) (permutation_is_reordered p)
 
-pub priority_reordered : (p : ℕ) {xs ys : List Claim} → Reordered xs ys → has_priority p xs ≡ has_priority p ys
-priority_reordered p = any_reordered (λ c. eqb c.row.priority p)
+pub priority_permuted : (q : ℕ) {xs ys : List Claim} → IsPermutation xs ys → has_priority q xs ≡ has_priority q ys
+priority_permuted q p = any_reordered (λ c. eqb c.row.priority q) (permutation_is_reordered p)
 
--- what is true of each element, or of each two, and what is contained, does not hang on their order
-pub all_reordered : {A : Type 0} (P : A → Type 0) {xs ys : List A} → Reordered xs ys → All P xs → All P ys
-all_reordered P same h = h
-all_reordered P (next {a = a} {xs = xs} {ys = ys} r) h = All-cons P a ys (All-head P a xs h) (all_reordered P r (All-tail P a xs h))
-all_reordered P (swapped {a = a} {b = b} {xs = xs}) h =
-    let rest = All-tail P a (b ∷ xs) h in
-    All-cons P b (a ∷ xs) (All-head P b xs rest) (All-cons P a xs (All-head P a (b ∷ xs) h) (All-tail P b xs rest))
-all_reordered P (through r q) h = all_reordered P q (all_reordered P r h)
-
-pub pairs_reordered : {A : Type 0} (R : A → A → Type 0) → ((x y : A) → R x y → R y x) → {xs ys : List A} → Reordered xs ys → AllPairs R xs → AllPairs R ys
-pairs_reordered R back same p = p
-pairs_reordered R back (next {a = a} {xs = xs} {ys = ys} r) p = AllPairs-cons R a ys (all_reordered (R a) r (pairs_head R a xs p)) (pairs_reordered R back r (pairs_tail R a xs p))
-pairs_reordered R back (swapped {a = a} {b = b} {xs = xs}) p =
-    let first = pairs_head R a (b ∷ xs) p in
-    let rest = pairs_tail R a (b ∷ xs) p in
-    AllPairs-cons R b (a ∷ xs) (All-cons (R b) a xs (back a b (All-head (R a) b xs first)) (pairs_head R b xs rest))
-    (AllPairs-cons R a xs (All-tail (R a) b xs first) (pairs_tail R b xs rest))
-pairs_reordered R back (through r q) p = pairs_reordered R back q (pairs_reordered R back r p)
-
-pub contains_reordered : {A : Type 0} (x : A) {xs ys : List A} → Reordered xs ys → Contains xs x → Contains ys x
-contains_reordered x {xs = xs} {ys = ys} r m = All-contains (Contains ys) xs x (all_reordered (Contains ys) (reordered_back r) (All-contains_itself ys)) m
-
-pub numbers_reordered : {xs ys : List Claim} → Reordered xs ys → DistinctNumbers xs → DistinctNumbers ys
-numbers_reordered r d = pairs_reordered (λ c d. number_of c ≢ number_of d) (λ c d ne e. ne (sym e)) r d
+pub numbers_permuted : {xs ys : List Claim} → IsPermutation xs ys → DistinctNumbers xs → DistinctNumbers ys
+numbers_permuted {xs = xs} {ys = ys} p = pairs_permuted (λ c d. number_of c ≢ number_of d) (λ c d ne e. ne (sym e)) xs ys p
 
 -- each check has a number from low to high
 abbrev pub Numbered : ℕ → ℕ → List (Bool × ℕ) → Type 0
@@ -116,7 +97,7 @@ at_least_five e = grind arith
 -- The number and the priority of a row that passes are new, and there is room for it. Its number is one byte, and its deadline within its spacing.
 pub record Passed (a : Account) (c : Claim) : Type 0 where
   pub number : has_number (number_of c) a.rows ≡ false
-  pub priority : NoneAt c.row.priority a.rows
+  pub priority : All (λ d. c.row.priority ≢ d.row.priority) a.rows
   pub room : length a.rows < a.room
   pub byte : number_of c ≤ 255
   pub deadline : c.row.deadline ≤ c.demand.spacing
@@ -126,7 +107,7 @@ passed a c e =
     let none_of = none_applies 5 10 (hold_checks a c) (omega arith) ((omega arith, omega arith), ((omega arith, omega arith), ((omega arith, omega arith), ((omega arith, omega arith), ((omega arith, omega arith), ((omega arith, omega arith), tt)))))) e in
     record {
       number = (or_parts (is_no_number (number_of c)) (has_number (number_of c) a.rows) none_of.0).1;
-      priority = none_at c.row.priority a.rows (or_parts (is_no_priority c.row.priority) (has_priority c.row.priority a.rows) none_of.1.0).1;
+      priority = other_priorities c.row.priority a.rows (or_parts (is_no_priority c.row.priority) (has_priority c.row.priority a.rows) none_of.1.0).1;
       room = leb-false a.room (length a.rows) none_of.1.1.1.1.1.0;
       byte =
           ltb-false 255 (number_of c)
@@ -136,11 +117,8 @@ passed a c e =
           (or_parts (eqb c.row.deadline 0) (ltb c.demand.spacing c.row.deadline) none_of.1.1.1.0).1;
     }
 
-pub ranked_lawful : (cs : List Claim) → LawfulRows cs → AllLawful (ranking cs)
-ranked_lawful cs h = lawful_reordered (highest_first cs).reordered (all_lawful cs h)
-
 pub needs_grow : (cs : List Claim) → LawfulRows cs → Grows (system_of cs)
-needs_grow cs h = grows (loads (ranking cs)) (lawful_loads (rows (ranking cs)) (ranking cs) (ranked_lawful cs h))
+needs_grow cs h = grows (loads (ranking cs)) (lawful_loads (rows (ranking cs)) (ranking cs) (lawful_ranking cs h))
 
 length_loads : (all : List Row) (cs : List Claim) → length (loads_of all cs) ≡ length cs
 length_loads all [] = refl

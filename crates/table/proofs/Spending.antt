@@ -25,7 +25,7 @@ use Rattle.table.specs.Places.{names, At, HeldHere, NoneKept, StateHere}
 use Rattle.table.proofs.Lookups.{tasks, task_at, state_at, AtLow, named, named_more, number_found}
 use Rattle.table.proofs.Checks.{held_applies, no_row_applies, spent_applies, unspent_passes, withdraw_passes}
 use Rattle.table.proofs.Parts.{unspent_own, unspent_row}
-use Rattle.table.proofs.Shared.{number_reordered}
+use Rattle.table.proofs.Shared.{number_permuted}
 
 -- all holds are of one table, so its number need not be looked at
 same_held : (table n : ℕ) (cs : List Claim) (hs : List Bears) → OwnHolds table cs hs → has_hold_on n hs ≡ has_unspent table n hs
@@ -132,7 +132,7 @@ module _ {K : Type 0} {demand : K → Demand} {a : Account} (t : Table K) (agree
 
       there : has_unspent h.table h.row a.holds ≡ true → has_number h.row (claims_of demand (tasks t)) ≡ true
       there e =
-          number_reordered h.row agrees.rows_are
+          number_permuted h.row agrees.rows_are
           ∙ unspent_row a.number a.rows a.number h.row a.holds agrees.sound.holds (by_row e)
 
       gone : has_unspent h.table h.row a.holds ≡ true → has_number h.row (claims_of demand (tasks t)) ≡ false

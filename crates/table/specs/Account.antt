@@ -10,7 +10,7 @@ use Rattle.table.specs.declared.TheConstants.{LARGEST_NUMBER, LARGEST_PRIORITY, 
 use Rattle.analysis.specs.declared.answers.Answers.{Answers}
 use Rattle.analysis.specs.Judge.{Answered, LateRow, answers_of}
 use Rattle.analysis.specs.Plans.{Bounds}
-use Rattle.analysis.specs.Ranks.{Claim, ranking, loads, at, system_of}
+use Rattle.analysis.specs.Ranks.{Claim, ranking, loads, load_at, system_of}
 use Rattle.table.specs.declared.hold.Hold.{Hold}
 use Rattle.table.specs.declared.refusals.HoldRefusal.{HoldRefusal}
 use Rattle.table.specs.declared.refusals.HoldRefusal.TheVariants.{Number, Priority, Suspension, Deadline, Section, NoPlace, Late}
@@ -225,7 +225,7 @@ Withdraws a n (Err e) b = (first (withdraw_checks a n) ≡ withdraw_number e) ×
 pub record BoundOf (cs : List Claim) (n t v : ℕ) : Type 0 where
   pub rank : ℕ
   pub within : rank < length cs
-  pub number : (at (loads (ranking cs)) rank).claim.row.number ≡ n
+  pub number : (load_at (loads (ranking cs)) rank).claim.row.number ≡ n
   pub R : ℕ → ℕ
   pub V : ℕ → ℕ
   pub bounds : Bounds (system_of cs) (length cs) R V

@@ -1,11 +1,11 @@
 -- When a table agrees with an account. Assumes nothing.
 -- How to read it: `Agrees` ties the fields of a table to an account, and `demand` is what values of the kind K mean. Up to `Sound` all is about
 -- accounts alone.
-use Rattle.std.specs.Prelude.{◌≡◌, ℕ, ◌<◌, min, true, false, ◌≢◌, List, length, All, AllPairs, take, Some, None, Option, slice_index_or}
+use Rattle.std.specs.Prelude.{◌≡◌, ℕ, ◌<◌, min, true, false, ◌≢◌, List, length, All, AllPairs, take, Some, None, Option, slice_index_or, IsPermutation}
 use Rattle.demand.specs.Demand.{Demand, Lawful}
 use Rattle.analysis.specs.declared.Task.{Task}
 use Rattle.analysis.specs.Candidates.{claims_of}
-use Rattle.analysis.specs.Ranks.{Claim, Reordered, DistinctPriorities}
+use Rattle.analysis.specs.Ranks.{Claim, DistinctPriorities}
 use Rattle.table.specs.declared.Table.{Table}
 use Rattle.table.specs.declared.state.State.{State}
 use Rattle.table.specs.declared.state.State.TheVariants.{Free, Held, Kept}
@@ -53,7 +53,7 @@ module _ {K : Type 0} where
     pub number_is : a.number ≡ number
     pub states_are : length states ≡ MOST_ROWS
     pub room_is : a.room ≡ min (length places) MOST_ROWS
-    pub rows_are : Reordered (claims_of demand (take MOST_ROWS places)) a.rows
+    pub rows_are : IsPermutation (claims_of demand (take MOST_ROWS places)) a.rows
     pub at_each : (i : ℕ) → i < MOST_ROWS
         → StandsAt a (slice_index_or states i Free) (slice_index_or (take MOST_ROWS places) i None)
     pub sound : Sound a

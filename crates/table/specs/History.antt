@@ -2,12 +2,12 @@
 -- How to read it: t is a table, es are its calls with their answers, the last one first, and `demand` is what values of the kind K mean. A fact in
 -- `∥ ∥₁` is that fact, and nothing of how it came to be. `HasHistory` relates a table to the list of its calls; `Promise` is what is then true of
 -- the two, and `EveryHistory` says it of all lists and tables.
-use Rattle.std.specs.Prelude.{◌≡◌, ℕ, ◌<◌, min, ◌⊎◌, List, ◌∷◌, ◌++◌, length, take, Some, None, Ok, Result, slice_index_or, ◌↔◌}
+use Rattle.std.specs.Prelude.{◌≡◌, ℕ, ◌<◌, min, ◌⊎◌, List, ◌∷◌, ◌++◌, length, take, Some, None, Ok, Result, slice_index_or, ◌↔◌, IsPermutation}
 use Rattle.demand.specs.Demand.{Demand}
 use Rattle.analysis.specs.declared.Task.{Task}
 use Rattle.analysis.specs.Candidates.{claims_of}
 use Rattle.analysis.specs.Plans.{BestPlan}
-use Rattle.analysis.specs.Ranks.{Claim, Reordered, ranking, loads, at, system_of}
+use Rattle.analysis.specs.Ranks.{Claim, ranking, loads, load_at, system_of}
 use Rattle.table.specs.declared.refusals.BoundRefusal.{BoundRefusal}
 use Rattle.table.specs.declared.hold.Hold.{Hold}
 use Rattle.table.specs.declared.refusals.HoldRefusal.{HoldRefusal}
@@ -70,7 +70,7 @@ module _ {K : Type 0} (demand : K → Demand) where
   -- c has the rank k among the rows of the table, 0 being the highest
   pub record HasRank (t : Table K) (c : Claim) (k : ℕ) : Type 0 where
     pub within : k < length (rows_at t)
-    pub claim : (at (loads (ranking (rows_at t))) k).claim ≡ c
+    pub claim : (load_at (loads (ranking (rows_at t))) k).claim ≡ c
 
   -- What is promised of a table and its calls, with the bound R k and the vector V k of the row of each rank k.
   pub record Promise (es : List Event) (t : Table K) (R V : ℕ → ℕ) : Type 0 where
@@ -79,7 +79,7 @@ module _ {K : Type 0} (demand : K → Demand) where
     -- the vectors are a plan with these bounds, and no plan under which all rows are in time has a smaller bound for any row
     pub best_plan : BestPlan (system_of (rows_at t)) R V
     -- the rows of the account after the calls are those at the places, in some order
-    pub rows : Reordered (rows_at t) (account_of es t).rows
+    pub rows : IsPermutation (rows_at t) (account_of es t).rows
     -- each hold among the calls was refused as late exactly when there was no plan, if it passed the checks before
     pub late : (later : List Event) (c : Claim) (r : Result Hold HoldRefusal) (earlier : List Event) → es ≡ later ++ holding c r ∷ earlier → LateWithoutPlan (account_of earlier t) c r
     -- and so will the next one be
