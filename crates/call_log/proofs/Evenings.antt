@@ -9,7 +9,7 @@ use Rattle.demand.specs.declared.delayed.Delayed.{Delayed}
 use Rattle.demand.specs.declared.factor.Factor.{Factor}
 use Rattle.demand.specs.declared.slowed.Slowed.{Slowed}
 use Rattle.table.specs.declared.Table.{Table}
-use Rattle.table.specs.Account.{Account, fresh}
+use Rattle.table.specs.Account.{Account, fresh_account}
 use Rattle.table.specs.Agreement.{AgreesWith}
 use Rattle.table.specs.History.{HasHistory, account_of, fresh_of}
 use Rattle.table.specs.Runs.{Event, Step, after, after_all}
@@ -54,8 +54,8 @@ pub few_places : {A : Type 0} (n : ℕ) (xs : List A) → length xs ≡ 12 → n
 few_places n xs twelve few = omega (arith, length-take n xs, twelve, few)
 
 -- an evening begins with no call
-pub opened : (clock : Factor) (o : Opening) (t : Table (Slowed (Delayed Jobs))) (n : ℕ) → fresh_of t ≡ fresh o.number n → n ≡ o.places → evening clock (account_of [] t) ≡ evening clock (fresh o.number o.places)
-opened clock o t n made few = ap (evening clock) made ∙ ap (λ k. evening clock (fresh o.number k)) few
+pub opened : (clock : Factor) (o : Opening) (t : Table (Slowed (Delayed Jobs))) (n : ℕ) → fresh_of t ≡ fresh_account o.number n → n ≡ o.places → evening clock (account_of [] t) ≡ evening clock (fresh_account o.number o.places)
+opened clock o t n made few = ap (evening clock) made ∙ ap (λ k. evening clock (fresh_account o.number k)) few
 
 pub one_due : (o : Option Opening) → due_count o ≤ 1
 one_due None = omega arith

@@ -4,9 +4,9 @@ use Rattle.std.proofs.lemmas.Bool.{cases_Bool}
 use Rattle.std.proofs.lemmas.Bool.Decides.{nat_tests}
 use Rattle.std.proofs.lemmas.List.{append-nil, length-take, take_all}
 use Rattle.planfile.specs.declared.fault.Blame.{Blame}
-use Rattle.planfile.specs.Fault.{by, first_blame}
+use Rattle.planfile.specs.Fault.{by_number, first_blame}
 use Rattle.planfile.specs.Requests.{clock_line_checks, end_checks, opening_checks, request_checks}
-use Rattle.planfile.specs.Text.{ended, newline, parted_by}
+use Rattle.planfile.specs.Text.{ends_with_newline, newline, parted_by}
 use Rattle.planfile.proofs.Parted.{ended_line, parted_at, some_part}
 use Rattle.call_log.specs.Counting.{kept_of}
 use Rattle.call_log.specs.Logs.{Stage, table_due, clock_due, evening, over, Turn, Checked, LineSays, LogSays, end_says, refuses, says}
@@ -14,11 +14,11 @@ use Rattle.call_log.specs.Reading.{BeginsWith, Leads, OnePiece}
 
 -- a line is too long, or has no newline
 abbrev pub IsCut : List ℕ → Type 0
-IsCut text = (nat_lt 4096 (length text) || not (ended text)) ≡ true
+IsCut text = (nat_lt 4096 (length text) || not (ends_with_newline text)) ≡ true
 
 -- then it is refused by 18
-blamed : (text : List ℕ) (more : List (Bool × Blame)) → IsCut text → first_blame (end_checks text ++ more) ≡ by 18
-blamed text more cut = ap (λ b. if b then by 18 else first_blame more) cut
+blamed : (text : List ℕ) (more : List (Bool × Blame)) → IsCut text → first_blame (end_checks text ++ more) ≡ by_number 18
+blamed text more cut = ap (λ b. if b then by_number 18 else first_blame more) cut
 
 -- where a log stands after such a line
 abbrev pub stays : Stage → Stage
@@ -28,20 +28,20 @@ stays (evening clock a) = evening clock a
 stays over = over
 
 abbrev pub refused_18 : Stage → ℕ → Turn
-refused_18 table_due k = refuses k (by 18) over
-refused_18 (clock_due o) k = refuses k (by 18) over
-refused_18 (evening clock a) k = refuses k (by 18) (evening clock a)
+refused_18 table_due k = refuses k (by_number 18) over
+refused_18 (clock_due o) k = refuses k (by_number 18) over
+refused_18 (evening clock a) k = refuses k (by_number 18) (evening clock a)
 refused_18 over k = says [] over
 
 -- checks that blame 18
-checked_18 : (k : ℕ) (b : Blame) (s : Stage) (turn : Turn) (More : Type 0) → b ≡ by 18 → Checked k b s turn More → turn ≡ refuses k (by 18) s
+checked_18 : (k : ℕ) (b : Blame) (s : Stage) (turn : Turn) (More : Type 0) → b ≡ by_number 18 → Checked k b s turn More → turn ≡ refuses k (by_number 18) s
 checked_18 k b s turn More is (inl c) = c.1 ∙ ap (λ (x : Blame). refuses k x s) is
 checked_18 k b s turn More is (inr c) = absurd (apart (ap (λ (x : Blame). x.number) (sym is ∙ c.0)))
   where
     apart : ◌≡◌ {A = ℕ} 18 0 → ⊥
     apart e = omega arith
 
-blames_18 : (k : ℕ) (b : Blame) (s : Stage) (More : Type 0) → b ≡ by 18 → Checked k b s (refuses k (by 18) s) More
+blames_18 : (k : ℕ) (b : Blame) (s : Stage) (More : Type 0) → b ≡ by_number 18 → Checked k b s (refuses k (by_number 18) s) More
 blames_18 k b s More is = inl ((λ e. apart (sym (ap (λ (x : Blame). x.number) is) ∙ e)), ap (λ (x : Blame). refuses k x s) (sym is))
   where
     apart : ◌≡◌ {A = ℕ} 18 0 → ⊥
@@ -103,7 +103,7 @@ open_cut line one =
   where
     unended : (line : List ℕ) → OnePiece line → IsCut line
     unended line one =
-        elim (cases_Bool (ended line)) [
+        elim (cases_Bool (ends_with_newline line)) [
           | inl e ↦ absurd (omega (arith, ended_line line e, ap (λ ps. length (take (length ps - 1) ps)) one))
           | inr e ↦ rw e (any_or (nat_lt 4096 (length line)))
         ]

@@ -1,7 +1,7 @@
 -- What comes of a line, by what reading it answers. Assumes nothing.
 use Rattle.std.proofs.Common.{◌≡◌, ℕ, List, [], Ok, Err, Result, ap, subst, inr}
 use Rattle.demand.specs.declared.factor.Factor.{Factor}
-use Rattle.table.specs.Account.{Account, fresh}
+use Rattle.table.specs.Account.{Account, fresh_account}
 use Rattle.planfile.specs.declared.fault.LineFault.{LineFault}
 use Rattle.planfile.specs.declared.request.Opening.{Opening}
 use Rattle.planfile.specs.declared.request.Request.{Request}
@@ -21,8 +21,8 @@ module _ (k : ℕ) (text items : List ℕ) (same : text ≡ items) where
   opening_refused f e = subst (λ t. LineSays table_due k t (refuses k (line_blame f) over)) same (is_refused k (first_blame (opening_checks text)) over f _ e)
 
   -- a clock line, or what is none
-  pub clock_says : (o : Opening) (clock : Factor) → first_blame (clock_line_checks text) ≡ nothing → clock ≡ clock_of (first_fields text) → LineSays (clock_due o) k items (says [] (evening clock (fresh o.number o.places)))
-  clock_says o clock pass is = subst (λ t. LineSays (clock_due o) k t (says [] (evening clock (fresh o.number o.places)))) same (inr (pass, ap (λ (x : Factor). says [] (evening x (fresh o.number o.places))) is))
+  pub clock_says : (o : Opening) (clock : Factor) → first_blame (clock_line_checks text) ≡ nothing → clock ≡ clock_of (first_fields text) → LineSays (clock_due o) k items (says [] (evening clock (fresh_account o.number o.places)))
+  clock_says o clock pass is = subst (λ t. LineSays (clock_due o) k t (says [] (evening clock (fresh_account o.number o.places)))) same (inr (pass, ap (λ (x : Factor). says [] (evening x (fresh_account o.number o.places))) is))
 
   pub clock_refused : (o : Opening) (f : LineFault) → first_blame (clock_line_checks text) ≡ line_blame f → LineSays (clock_due o) k items (refuses k (line_blame f) over)
   clock_refused o f e = subst (λ t. LineSays (clock_due o) k t (refuses k (line_blame f) over)) same (is_refused k (first_blame (clock_line_checks text)) over f _ e)

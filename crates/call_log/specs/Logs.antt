@@ -8,7 +8,7 @@ use Rattle.std.specs.List.{flat_map}
 use Rattle.demand.specs.declared.factor.Factor.{Factor}
 use Rattle.analysis.specs.declared.Answer.{Answer}
 use Rattle.analysis.specs.Judge.{RowsAnswered}
-use Rattle.table.specs.Account.{Account, fresh, held}
+use Rattle.table.specs.Account.{Account, fresh_account, has_hold_on}
 use Rattle.table.specs.Runs.{Event, Step, after}
 use Rattle.runs.specs.declared.call.Reply.{Reply}
 use Rattle.runs.specs.Calls.{IsEvent, call_row}
@@ -17,7 +17,7 @@ use Rattle.planfile.specs.declared.request.Opening.{Opening}
 use Rattle.planfile.specs.declared.request.Request.{Request}
 use Rattle.planfile.specs.declared.request.Request.TheVariants.{Table, Call, Rows}
 use Rattle.planfile.specs.Checks.{clock_of, row_demand}
-use Rattle.planfile.specs.Fault.{nothing, at_line, by, first_blame}
+use Rattle.planfile.specs.Fault.{nothing, at_line, by_number, first_blame}
 use Rattle.planfile.specs.Reading.{first_fields}
 use Rattle.planfile.specs.Report.{refusal_line}
 use Rattle.planfile.specs.Requests.{opening_checks, opening_of, clock_line_checks, request_checks, request_of}
@@ -52,7 +52,7 @@ Checked k b s turn More = ((b.number ≢ 0) × (turn ≡ refuses k b s)) ⊎ ((b
 
 -- the lines of these rows, and whether each is held: its hold is unspent
 abbrev pub rows_text : Account → List Answer → List ℕ
-rows_text a answers = flat_map (λ x. row_response x (held x.number a.holds)) answers
+rows_text a answers = flat_map (λ x. row_response x (has_hold_on x.number a.holds)) answers
 
 -- What comes of line k where a table line is due, which is this text with its newline.
 abbrev pub TableSays : ℕ → List ℕ → Turn → Type 0
@@ -75,7 +75,7 @@ RequestSays clock a k text Rows turn =
 abbrev pub LineSays : Stage → ℕ → List ℕ → Turn → Type 0
 LineSays table_due k text turn = TableSays k text turn
 LineSays (clock_due o) k text turn =
-    Checked k (first_blame (clock_line_checks text)) over turn (turn ≡ says [] (evening (clock_of (first_fields text)) (fresh o.number o.places)))
+    Checked k (first_blame (clock_line_checks text)) over turn (turn ≡ says [] (evening (clock_of (first_fields text)) (fresh_account o.number o.places)))
 LineSays (evening clock a) k text turn =
     Checked k (first_blame (request_checks text)) (evening clock a) turn
     ((request : Request) × (request_of clock a.number text ≡ Some request) × RequestSays clock a k text request turn)
@@ -85,11 +85,11 @@ LineSays over k text turn = turn ≡ says [] over
 -- that ends where a table line or a clock line is due; then no line is to blame.
 abbrev pub end_says : Stage → ℕ → List ℕ → Turn
 end_says over k last = says [] over
-end_says table_due k (b ∷ bs) = refuses k (by 18) over
-end_says table_due k [] = refuses 0 (by 18) over
-end_says (clock_due o) k (b ∷ bs) = refuses k (by 18) over
-end_says (clock_due o) k [] = refuses 0 (by 18) over
-end_says (evening clock a) k (b ∷ bs) = refuses k (by 18) over
+end_says table_due k (b ∷ bs) = refuses k (by_number 18) over
+end_says table_due k [] = refuses 0 (by_number 18) over
+end_says (clock_due o) k (b ∷ bs) = refuses k (by_number 18) over
+end_says (clock_due o) k [] = refuses 0 (by_number 18) over
+end_says (evening clock a) k (b ∷ bs) = refuses k (by_number 18) over
 end_says (evening clock a) k [] = says [] over
 
 -- What comes of pieces, the first of which is line k: what is said of all, and whether all lines were well formed.

@@ -17,7 +17,7 @@ use Rattle.demand.specs.declared.factor.Factor.{Factor}
 use Rattle.demand.specs.declared.delayed.Delayed.{Delayed}
 use Rattle.demand.specs.declared.slowed.Slowed.{Slowed}
 use Rattle.table.specs.declared.Table.{Table as TableOf}
-use Rattle.table.specs.Account.{Account, fresh}
+use Rattle.table.specs.Account.{Account, fresh_account}
 use Rattle.table.specs.Agreement.{MatchesAccount}
 use Rattle.table.specs.History.{HasHistory, account_of}
 use Rattle.table.specs.Runs.{Event}
@@ -25,7 +25,7 @@ use Rattle.runs.specs.declared.call.Call.{Call as TableCall}
 use Rattle.runs.specs.declared.call.Reply.{Reply}
 use Rattle.runs.specs.Calls.{IsEvent, call_row}
 use Rattle.planfile.specs.Checks.{Jobs, row_demand}
-use Rattle.planfile.specs.Fault.{by}
+use Rattle.planfile.specs.Fault.{by_number}
 use Rattle.planfile.specs.Report.{refusal_line}
 use Rattle.planfile.specs.Responses.{response_line, response_of}
 use Rattle.planfile.specs.declared.request.Opening.{Opening}
@@ -95,7 +95,7 @@ module _ {R : Type 0} {reads : Ghosts R} where
   ReadsDue l m before after true =
       ReadsLine l true m × (m.number ≡ l.number + 1) × (m.well_formed ≡ l.well_formed) × (after ≡ before)
   ReadsDue l m before after false =
-      ReadsLine l false m × (m.well_formed ≡ false) × Appends before after (refusal_line (by 18))
+      ReadsLine l false m × (m.well_formed ≡ false) × Appends before after (refusal_line (by_number 18))
 
   -- The line at hand was answered, and the log is as it was: this came of it.
   pub record AnswersLine (l m : Log R reads) (before after : Option (List ℕ)) (s t : Stage) : Type 0 where
@@ -131,7 +131,7 @@ FewPlaces End = ⊤
 -- where a log stands behind the clock line of a table
 abbrev pub clock_stage : Opening → Option Factor → Stage
 clock_stage o None = over
-clock_stage o (Some clock) = evening clock (fresh o.number o.places)
+clock_stage o (Some clock) = evening clock (fresh_account o.number o.places)
 
 -- a table of rows as logs and plan files have them
 abbrev pub RowTable : Type 0

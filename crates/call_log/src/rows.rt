@@ -1,6 +1,6 @@
 //! What is told of all rows of a table.
 ghost use Rattle.std.specs.Prelude.{◌≡◌, ◌++◌, OnOk, string_bytes};
-ghost use Rattle.table.specs.Account.{held};
+ghost use Rattle.table.specs.Account.{has_hold_on};
 ghost use Rattle.table.specs.Agreement.{MatchesAccount};
 ghost use Rattle.runs.specs.Desk.{table_of};
 ghost use Rattle.planfile.specs.Checks.{row_demand};
@@ -17,7 +17,7 @@ use table::State;
 // Whether a row is held. A row that is not stands as kept.
 fn is_held(desk: &Desk<'_, RowKind>, number: u32) -> bool
     ensures { MatchesAccount row_demand
-        (λ a. result ≡ held number a.holds) (table_of desk.now) }
+        (λ a. result ≡ has_hold_on number a.holds) (table_of desk.now) }
 {
     matches!(desk.table().state_of(number), State::Held(_))
 }

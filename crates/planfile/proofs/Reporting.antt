@@ -1,9 +1,12 @@
 -- The rows of a file have small numbers, so their report fits. Assumes nothing.
 use Rattle.std.proofs.Common.{◌≡◌, ℕ, zero, suc, ◌+◌, ◌^◌, ◌<◌, ◌≤◌, List, [], ◌∷◌, length, slice_index_or, Ok, sym, subst, inl, inr, arith, pow_mono}
+use Rattle.std.specs.Prelude.{All}
+use Rattle.std.proofs.lemmas.List.Elements.{All-nil, All-cons, All-head, All-tail}
+use Rattle.std.proofs.lemmas.List.Sorted.{All-permutation}
 use Rattle.analysis.specs.declared.Answer.{Answer}
 use Rattle.analysis.specs.declared.Row.{Row}
 use Rattle.analysis.specs.Judge.{Answered, InTime, no_answer, bounds_of, vectors_of}
-use Rattle.analysis.specs.Ranks.{Claim, Reordered, same, next, swapped, through, ranking, rows as rows_alone, loads, loads_of, at, system_of}
+use Rattle.analysis.specs.Ranks.{Claim, ranking, rows as rows_alone, loads, loads_of, load_at, system_of}
 use Rattle.analysis.proofs.Best.{best_plan}
 use Rattle.analysis.proofs.Order.{highest_first}
 use Rattle.table.specs.Account.{number_of}
@@ -23,8 +26,7 @@ pub record Limited (c : Claim) : Type 0 where
   pub deadline : c.row.deadline ≤ 1_000_000
 
 abbrev AllLimited : List Claim → Type 0
-AllLimited [] = Unit {0}
-AllLimited (c ∷ cs) = Limited c × AllLimited cs
+AllLimited = All Limited
 
 -- a row that is taken is within its limits, and there was room for it
 row_limited : (clock : Factor) (rows : List Claim) (fs : List (List ℕ)) → RowTaken clock rows fs → Limited (claim_in clock fs) × (length rows < 12)
@@ -41,23 +43,17 @@ rows_limited clock n rows (l ∷ ls) out (inl (b, refused, e)) small few =
     absurd (cc)
 rows_limited clock n rows (l ∷ ls) out (inr (taken, read)) small few =
     let one = row_limited clock rows (fields l) taken in
-    rows_limited clock (n + 1) (claim_in clock (fields l) ∷ rows) ls out read (one.0, small) (let r = one.1 in omega arith)
+    rows_limited clock (n + 1) (claim_in clock (fields l) ∷ rows) ls out read (All-cons Limited (claim_in clock (fields l)) rows one.0 small) (let r = one.1 in omega arith)
 
 lines_limited : (text : List ℕ) (out : List Claim) → LinesRead text (Ok out) → AllLimited out × (length out ≤ 12)
 lines_limited text out (inl (some, e)) =
     absurd (cc)
-lines_limited text out (inr (pass, read)) = rows_limited _ 2 [] _ out read tt (omega arith)
+lines_limited text out (inr (pass, read)) = rows_limited _ 2 [] _ out read (All-nil Limited) (omega arith)
 
-limited_reordered : {xs ys : List Claim} → Reordered xs ys → AllLimited xs → AllLimited ys
-limited_reordered same h = h
-limited_reordered (next r) h = (h.0, limited_reordered r h.1)
-limited_reordered swapped h = (h.1.0, (h.0, h.1.1))
-limited_reordered (through r q) h = limited_reordered q (limited_reordered r h)
-
-limited_at : (all : List Row) (cs : List Claim) → AllLimited cs → (k : ℕ) → k < length (loads_of all cs) → Limited (at (loads_of all cs) k).claim
+limited_at : (all : List Row) (cs : List Claim) → AllLimited cs → (k : ℕ) → k < length (loads_of all cs) → Limited (load_at (loads_of all cs) k).claim
 limited_at all [] h k l = absurd (omega arith)
-limited_at all (c ∷ cs) h zero l = h.0
-limited_at all (c ∷ cs) h (suc k) l = limited_at all cs h.1 k (omega arith)
+limited_at all (c ∷ cs) h zero l = All-head Limited c cs h
+limited_at all (c ∷ cs) h (suc k) l = limited_at all cs (All-tail Limited c cs h) k (omega arith)
 
 -- the answer for a rank is small
 small_answer : (rows : List Claim) (answers : List Answer) → AllLimited rows → length rows ≤ 12 → Answered (loads (ranking rows)) answers → (k : ℕ) → k < length answers → SmallAnswer (slice_index_or answers k no_answer)
@@ -65,7 +61,7 @@ small_answer rows answers small few answered k l =
     let ls = loads (ranking rows) in
     let within : k < length ls = (let e = answered.count in omega arith) in
     let low : k ≤ 12 = (let e = length_ranks rows in omega arith) in
-    let one = limited_at (rows_alone (ranking rows)) (ranking rows) (limited_reordered (highest_first rows).reordered small) k within in
+    let one = limited_at (rows_alone (ranking rows)) (ranking rows) (All-permutation Limited rows (ranking rows) (highest_first rows).reordered small) k within in
     let row = answered.rows k within in
     let cover = (answered.bounds k within).covers in
     let vectors : 2 ^ k ≤ 2 ^ 12 = pow_mono low in

@@ -1,5 +1,8 @@
 -- Rows that are in time together are accepted one by one. Assumes nothing.
 use Rattle.std.proofs.Common.{◌≡◌, ◌+◌, ◌≤◌, List, [], ◌∷◌, length, sym, refl, ◌∙◌, arith}
+use Rattle.std.proofs.Common.{not-suc-le-zero, ◌≢◌}
+use Rattle.std.proofs.lemmas.List.Elements.{All-nil, All-cons}
+use Rattle.std.proofs.lemmas.List.Kept.{AllPairs-cons}
 use Rattle.demand.specs.Demand.{Lawful}
 use Rattle.demand.specs.Basic.{every_demand, heavy_demand}
 use Rattle.demand.specs.Made.{delayed_by}
@@ -13,7 +16,8 @@ use Rattle.table.specs.declared.refusals.HoldRefusal.{HoldRefusal}
 use Rattle.table.specs.Account.{AllInTime, Refused, hold_checks}
 use Rattle.table.specs.Agreement.{LawfulRows}
 use Rattle.table.proofs.Promise.{is_late}
-use Rattle.table.proofs.Shared.{needs_grow, ranked_lawful, has_plan, passed}
+use Rattle.analysis.proofs.Order.{lawful_ranking}
+use Rattle.table.proofs.Shared.{needs_grow, has_plan, passed}
 use Rattle.demand.specs.declared.factor.Factor.{Factor}
 use Rattle.planfile.specs.Checks.{Jobs, Entry, jobs_demand, claim_of}
 use Rattle.planfile.specs.Reading.{account_with}
@@ -28,17 +32,17 @@ claim_lawful clock e =
 
 -- a lawful row before lawful rows
 pub lawful_before : (c : Claim) (rows : List Claim) → Lawful c.demand → LawfulRows rows → LawfulRows (c ∷ rows)
-lawful_before c rows here more = (here, more)
+lawful_before = All-cons (λ c. Lawful c.demand)
 
 pub none_lawful : LawfulRows []
-none_lawful = tt
+none_lawful = All-nil (λ c. Lawful c.demand)
 
 -- a row that passes all checks has a new priority
 distinct_before : (rows : List Claim) (c : Claim) → first (hold_checks (account_with rows) c) ≡ 0 → DistinctPriorities rows → DistinctPriorities (c ∷ rows)
-distinct_before rows c pass more = ((passed (account_with rows) c pass).priority, more)
+distinct_before rows c pass more = AllPairs-cons (λ c d. c.row.priority ≢ d.row.priority) c rows (passed (account_with rows) c pass).priority more
 
 pub none_distinct : DistinctPriorities []
-none_distinct = tt
+none_distinct = λ i j d l m. absurd (not-suc-le-zero m)
 
 -- rows that were there before entries are among all
 some_onto : (clock : Factor) (xs rows : List Claim) (es : List Entry) → SomeOf ◌≡◌ xs rows → SomeOf ◌≡◌ xs (claims_onto clock rows es)
@@ -90,7 +94,7 @@ rows_in_time : (clock : Factor) (rows : List Claim) (es : List Entry) → SoundB
 rows_in_time clock rows es s =
     let all : List Claim = claims_onto clock rows es in
     let t = s.in_time in
-    let left = removal_keeps_in_time all (ranked_lawful all (lawful_onto clock rows es s.lawful)) t.R t.V t.bounds (distinct_onto clock rows es s.numbers s.distinct) rows (some_onto clock rows rows es (all_of rows)) in
+    let left = removal_keeps_in_time all (lawful_ranking all (lawful_onto clock rows es s.lawful)) t.R t.V t.bounds (distinct_onto clock rows es s.numbers s.distinct) rows (some_onto clock rows rows es (all_of rows)) in
     record { R = left.Q; V = left.W; bounds = left.bounds }
 
 -- a row that passes all checks, and is in time with the others, is not refused

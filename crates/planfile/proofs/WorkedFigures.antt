@@ -6,7 +6,7 @@ use Rattle.std.proofs.lemmas.List.Sums.{AllPass-from_list_all}
 use Rattle.std.specs.Fmt.{digits}
 use Rattle.analysis.specs.Judge.{RowAnswered, InTime, no_answer, bounds_of, vectors_of}
 use Rattle.analysis.specs.Plans.{Bounds}
-use Rattle.analysis.specs.Ranks.{at, ranking, loads, system_of}
+use Rattle.analysis.specs.Ranks.{load_at, ranking, loads, system_of}
 use Rattle.analysis.proofs.Best.{best_plan}
 use Rattle.analysis.proofs.Tested.{fixed_by}
 use Rattle.table.specs.Agreement.{LawfulRows}
@@ -65,7 +65,7 @@ sound =
 lawful : LawfulRows file_rows
 lawful = lawful_onto even_clock [] garage_entries none_lawful
 
-each_answer : (k : ℕ) → k < 3 → RowAnswered (at (loads (ranking file_rows)) k) (slice_index_or garage_answers k no_answer)
+each_answer : (k : ℕ) → k < 3 → RowAnswered (load_at (loads (ranking file_rows)) k) (slice_index_or garage_answers k no_answer)
 each_answer zero l = record { number = refl; blocking = refl }
 each_answer (suc zero) l = record { number = refl; blocking = refl }
 each_answer (suc (suc zero)) l = record { number = refl; blocking = refl }

@@ -5,7 +5,7 @@ use Rattle.std.proofs.lemmas.List.{drop-set-lt, length-set}
 use Rattle.analysis.specs.declared.Task.{Task}
 use Rattle.table.specs.declared.state.State.{State}
 use Rattle.table.specs.declared.Table.{Table}
-use Rattle.table.specs.Account.{Account, fresh}
+use Rattle.table.specs.Account.{Account, fresh_account}
 use Rattle.table.specs.Memory.{ChangedAt, MarkedAt, SameTable}
 use Rattle.runs.specs.Holds.{frame_of}
 
@@ -17,7 +17,7 @@ module _ {K : Type 0} (t u : Table K) where
   -- the four parts of a frame
   frame_from : u.number ≡ t.number → length u.places.now ≡ length t.places.now → u.places.ghost_name ≡ t.places.ghost_name → drop 12 u.places.now ≡ drop 12 t.places.now → frame_of u ≡ frame_of t
   frame_from number count lent behind =
-      ap₂ (λ (a : Account) (m : ℕ × List (Option (Task K))). (a, m.0, m.1)) (ap₂ fresh number (ap (λ n. min n 12) count))
+      ap₂ (λ (a : Account) (m : ℕ × List (Option (Task K))). (a, m.0, m.1)) (ap₂ fresh_account number (ap (λ n. min n 12) count))
       (ap₂ (λ (n : ℕ) (places : List (Option (Task K))). (n, places)) lent behind)
 
   pub frame_same : SameTable t u → frame_of u ≡ frame_of t

@@ -14,7 +14,7 @@ use Rattle.table.proofs.InHand.{has_held_is, keep_refused, release_refused}
 use Rattle.table.proofs.Spending.{not_ours}
 use Rattle.table.specs.declared.refusals.SpendRefusal.{SpendRefusal}
 use Rattle.table.specs.declared.refusals.SpendRefusal.TheVariants.{NotHeld}
-use Rattle.table.specs.Account.{Account, handed_back, unspent}
+use Rattle.table.specs.Account.{Account, hold_of, has_unspent}
 use Rattle.table.specs.Agreement.{AgreesWith}
 use Rattle.runs.specs.declared.call.Way.{Way}
 use Rattle.runs.specs.declared.call.Way.TheVariants.{KeepRow, GiveUp}
@@ -138,7 +138,7 @@ module _ (table n : ℕ) where
 
 module _ {K : Type 0} (demand : K → Demand) (t : Table K) (way : Way) where
   -- a hold on a row that does not stand as held, or of another table, is refused
-  back_again : (h : Hold) → ((a : Account) → AgreesWith demand a t → unspent h.table h.row a.holds ≡ false) → Continues demand (spending way h (Err (NotHeld h))) t t
+  back_again : (h : Hold) → ((a : Account) → AgreesWith demand a t → has_unspent h.table h.row a.holds ≡ false) → Continues demand (spending way h (Err (NotHeld h))) t t
   back_again h spent_yet = elim way as (λ w. Continues demand (spending w h (Err (NotHeld h))) t t) [
     | KeepRow ↦ keep_refused demand t h spent_yet
     | GiveUp ↦ release_refused demand t h spent_yet
@@ -161,7 +161,7 @@ module _ {K : Type 0} (t u : Table K) (h : Hold) (other : h.table ≢ t.number) 
   same_then (Err e) m = m.held
 
 -- what comes back is what was passed
-pub back_is : (h : Hold) (e : SpendRefusal) → handed_back e ≡ h → e ≡ NotHeld h
+pub back_is : (h : Hold) (e : SpendRefusal) → hold_of e ≡ h → e ≡ NotHeld h
 back_is h (NotHeld back) same = ap NotHeld same
 
 pub refused_with : {K : Type 0} (t u : Table K) (h : Hold) (r : Result (Unit {0}) SpendRefusal) (e : SpendRefusal) → MatchResult r (λ _. SpendsHoldOn t u h) (HandsBack t u h) → r ≡ Err e → r ≡ Err (NotHeld h)

@@ -13,7 +13,7 @@ use Rattle.table.specs.declared.refusals.SpendRefusal.{SpendRefusal}
 use Rattle.table.specs.declared.refusals.SpendRefusal.TheVariants.{NotHeld}
 use Rattle.table.specs.declared.refusals.WithdrawRefusal.{WithdrawRefusal}
 use Rattle.table.specs.declared.Table.{Table}
-use Rattle.table.specs.Account.{Account, Holds, Spends, Withdraws, handed_back, number_of, spend_checks, spent, unspent}
+use Rattle.table.specs.Account.{Account, Holds, Spends, Withdraws, hold_of, number_of, spend_checks, without_hold, has_unspent}
 use Rattle.table.specs.Agreement.{AgreesWith}
 use Rattle.table.specs.Places.{has_held}
 use Rattle.table.proofs.Checks.{is_not_unspent, is_unspent}
@@ -39,8 +39,8 @@ module _ {K : Type 0} (demand : K → Demand) (t u : Table K) (known : IsAccount
     held = λ n. test_from (has_held u n) (has_held t n) (λ a agrees.
         let p = turns a agrees in
         has_held_is u p.2 n
-        ∙ ap (unspent u.number n) (same a p.0 p.1)
-        ∙ ap (λ m. unspent m n a.holds) (same_number t u frame)
+        ∙ ap (has_unspent u.number n) (same a p.0 p.1)
+        ∙ ap (λ m. has_unspent m n a.holds) (same_number t u frame)
         ∙ sym (has_held_is t agrees n));
   }
 
@@ -54,14 +54,14 @@ module _ {K : Type 0} (demand : K → Demand) (t u : Table K) (known : IsAccount
         was = test_from (has_held t (number_of c)) false (λ a agrees.
             let passes = (turns a agrees).1.0.passes in
             has_held_is t agrees (number_of c)
-            ∙ false_from_ne_true (unspent t.number (number_of c) a.holds) (λ e.
+            ∙ false_from_ne_true (has_unspent t.number (number_of c) a.holds) (λ e.
             none_has (number_of c) a.rows (passed a c passes).number (unspent_row a.number a.rows t.number (number_of c) a.holds agrees.sound.holds e)));
         held = λ m. test_from (has_held u m) ((number_of c == m) || has_held t m) (λ a agrees.
             let p = turns a agrees in
             has_held_is u p.2 m
-            ∙ ap (λ (x : Account). unspent u.number m x.holds) p.1.1
-            ∙ more a.number u.number m (unspent u.number m a.holds) (agrees.number_is ∙ sym number)
-            ∙ ap (λ b. (number_of c == m) || b) (ap (λ n. unspent n m a.holds) number ∙ sym (has_held_is t agrees m)));
+            ∙ ap (λ (x : Account). has_unspent u.number m x.holds) p.1.1
+            ∙ more a.number u.number m (has_unspent u.number m a.holds) (agrees.number_is ∙ sym number)
+            ∙ ap (λ b. (number_of c == m) || b) (ap (λ n. has_unspent n m a.holds) number ∙ sym (has_held_is t agrees m)));
       }
     where
       more : (x y m : ℕ) (b : Bool) → x ≡ y → (((x == y) && (number_of c == m)) || b) ≡ ((number_of c == m) || b)
@@ -69,7 +69,7 @@ module _ {K : Type 0} (demand : K → Demand) (t u : Table K) (known : IsAccount
   gives c (Err e) turns frame = same_held (λ a b. Holds a c (Err e) b) turns frame (λ a b s. ap (λ (x : Account). x.holds) s.1)
 
   -- keep and release, where `after` is the account with the hold spent
-  pub spends : (h : Hold) (after : Account → Account) → ((a : Account) → (after a).holds ≡ spent h.table h.row a.holds) → (r : Result (Unit {0}) SpendRefusal) → Turns demand t u (λ a b. Spends a h (after a) r b) → frame_of u ≡ frame_of t → MatchResult r (λ _. SpendsHoldOn t u h) (HandsBack t u h)
+  pub spends : (h : Hold) (after : Account → Account) → ((a : Account) → (after a).holds ≡ without_hold h.table h.row a.holds) → (r : Result (Unit {0}) SpendRefusal) → Turns demand t u (λ a b. Spends a h (after a) r b) → frame_of u ≡ frame_of t → MatchResult r (λ _. SpendsHoldOn t u h) (HandsBack t u h)
   spends h after holds_after (Ok x) turns frame =
       let number = same_number t u frame in
       record {
@@ -78,34 +78,34 @@ module _ {K : Type 0} (demand : K → Demand) (t u : Table K) (known : IsAccount
         was = test_from (has_held t h.row) true (λ a agrees.
             let passes = (turns a agrees).1.0 in
             has_held_is t agrees h.row
-            ∙ ap (λ n. unspent n h.row a.holds) (sym (owned a agrees passes ∙ agrees.number_is))
-            ∙ is_unspent (unspent h.table h.row a.holds) passes);
+            ∙ ap (λ n. has_unspent n h.row a.holds) (sym (owned a agrees passes ∙ agrees.number_is))
+            ∙ is_unspent (has_unspent h.table h.row a.holds) passes);
         held = λ m. test_from (has_held u m) (not (h.row == m) && has_held t m) (λ a agrees.
             let p = turns a agrees in
             let own : h.table ≡ a.number = owned a agrees p.1.0 in
             has_held_is u p.2 m
-            ∙ ap (unspent u.number m) (ap (λ (y : Account). y.holds) p.1.1 ∙ holds_after a)
+            ∙ ap (has_unspent u.number m) (ap (λ (y : Account). y.holds) p.1.1 ∙ holds_after a)
             ∙ left a m (own ∙ agrees.number_is ∙ sym number)
-            ∙ ap (λ b. not (h.row == m) && b) (ap (λ n. unspent n m a.holds) number ∙ sym (has_held_is t agrees m)));
+            ∙ ap (λ b. not (h.row == m) && b) (ap (λ n. has_unspent n m a.holds) number ∙ sym (has_held_is t agrees m)));
       }
     where
       owned : (a : Account) → AgreesWith demand a t → first (spend_checks a h) ≡ 0 → h.table ≡ a.number
-      owned a agrees passes = unspent_own a.number a.rows h.table h.row a.holds agrees.sound.holds (is_unspent (unspent h.table h.row a.holds) passes)
+      owned a agrees passes = unspent_own a.number a.rows h.table h.row a.holds agrees.sound.holds (is_unspent (has_unspent h.table h.row a.holds) passes)
 
-      left : (a : Account) (m : ℕ) → h.table ≡ u.number → unspent u.number m (spent h.table h.row a.holds) ≡ (not (h.row == m) && unspent u.number m a.holds)
+      left : (a : Account) (m : ℕ) → h.table ≡ u.number → has_unspent u.number m (without_hold h.table h.row a.holds) ≡ (not (h.row == m) && has_unspent u.number m a.holds)
       left a m own = elim (cases_Bool (h.row == m)) [
         | inl e ↦
             rw e
-            (subst (λ n. unspent u.number n (spent h.table h.row a.holds) ≡ false) (eqb-true h.row m e)
-            (subst (λ n. unspent n h.row (spent h.table h.row a.holds) ≡ false) own (spent_gone h.table h.row a.holds)))
+            (subst (λ n. has_unspent u.number n (without_hold h.table h.row a.holds) ≡ false) (eqb-true h.row m e)
+            (subst (λ n. has_unspent n h.row (without_hold h.table h.row a.holds) ≡ false) own (spent_gone h.table h.row a.holds)))
         | inr e ↦ rw e (others_stay h.table h.row u.number m a.holds (λ q. both_ways (h.row == m) e (grind (arith, nat_tests))))
       ]
   spends h after holds_after (Err (NotHeld back)) turns frame = record {
-    same = ap handed_back (same_hold demand t u h after (Err (NotHeld back)) turns known);
+    same = ap hold_of (same_hold demand t u h after (Err (NotHeld back)) turns known);
     why = λ ours. test_from (has_held t h.row) false (λ a agrees.
         has_held_is t agrees h.row
-        ∙ ap (λ n. unspent n h.row a.holds) (sym ours)
-        ∙ is_not_unspent (unspent h.table h.row a.holds) (turns a agrees).1.0);
+        ∙ ap (λ n. has_unspent n h.row a.holds) (sym ours)
+        ∙ is_not_unspent (has_unspent h.table h.row a.holds) (turns a agrees).1.0);
     held = same_held (λ a b. Spends a h (after a) (Err (NotHeld back)) b) turns frame (λ a b s. ap (λ (x : Account). x.holds) s.2);
   }
 

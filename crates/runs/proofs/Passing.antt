@@ -11,7 +11,7 @@ use Rattle.table.specs.declared.hold.Hold.{Hold}
 use Rattle.table.specs.declared.refusals.HoldRefusal.{HoldRefusal}
 use Rattle.table.specs.declared.refusals.SpendRefusal.{SpendRefusal}
 use Rattle.table.specs.declared.Table.{Table}
-use Rattle.table.specs.Account.{Account, Accepted, Bears, bears, HoldsAnswered, Spends, hold_checks, number_of, spent, unspent, with_kept, with_released, with_row, without}
+use Rattle.table.specs.Account.{Account, Accepted, Bears, bears, HoldsAnswered, Spends, hold_checks, number_of, without_hold, has_unspent, with_kept, with_released, with_row, without_row}
 use Rattle.table.specs.Agreement.{AgreesWith, Sound}
 use Rattle.table.proofs.Changes.{without_none}
 use Rattle.table.proofs.InHand.{IsAccounted, Turns, none_has, not_refused, same_numbers, taken}
@@ -24,12 +24,12 @@ use Rattle.runs.specs.declared.call.Way.{Way}
 use Rattle.runs.specs.declared.call.Way.TheVariants.{GiveUp, KeepRow}
 
 -- a row that passes the checks has no hold yet
-none_unspent : (a : Account) → Sound a → (c : Claim) → first (hold_checks a c) ≡ 0 → (table : ℕ) → unspent table (number_of c) a.holds ≡ false
+none_unspent : (a : Account) → Sound a → (c : Claim) → first (hold_checks a c) ≡ 0 → (table : ℕ) → has_unspent table (number_of c) a.holds ≡ false
 none_unspent a s c passes table =
-    false_from_ne_true (unspent table (number_of c) a.holds)
+    false_from_ne_true (has_unspent table (number_of c) a.holds)
     (λ e. none_has (number_of c) a.rows (passed a c passes).number (unspent_row a.number a.rows table (number_of c) a.holds s.holds e))
 
-spent_none : (table n : ℕ) (hs : List Bears) → unspent table n hs ≡ false → spent table n hs ≡ hs
+spent_none : (table n : ℕ) (hs : List Bears) → has_unspent table n hs ≡ false → without_hold table n hs ≡ hs
 spent_none table n [] e = refl
 spent_none table n (h ∷ hs) e = grind (arith, nat_tests, spent_none table n hs)
 
@@ -41,13 +41,13 @@ out_again a s c passes =
     with_these : List Claim → List Bears → Account
     with_these rows holds = record { number = a.number; room = a.room; rows = rows; holds = holds }
 
-    rows_again : (n : ℕ) → number_of c ≡ n → without n (c ∷ a.rows) ≡ a.rows
+    rows_again : (n : ℕ) → number_of c ≡ n → without_row n (c ∷ a.rows) ≡ a.rows
     rows_again n e = rw (eq-eqb (number_of c) n e) (without_none n a.rows (rw (← e) (passed a c passes).number))
 
     bears_both : (table n : ℕ) → bears table n (record { table = table; row = n }) ≡ true
     bears_both table n = grind (arith, nat_tests)
 
-    holds_again : (n : ℕ) → unspent a.number n a.holds ≡ false → spent a.number n (record { table = a.number; row = n } ∷ a.holds) ≡ a.holds
+    holds_again : (n : ℕ) → has_unspent a.number n a.holds ≡ false → without_hold a.number n (record { table = a.number; row = n } ∷ a.holds) ≡ a.holds
     holds_again n none = rw (bears_both a.number n) (spent_none a.number n a.holds none)
 
 -- the hold that was given bears the two numbers

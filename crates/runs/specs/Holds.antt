@@ -8,7 +8,7 @@ use Rattle.analysis.specs.declared.Task.{Task}
 use Rattle.table.specs.declared.hold.Hold.{Hold}
 use Rattle.table.specs.declared.refusals.SpendRefusal.{SpendRefusal}
 use Rattle.table.specs.declared.Table.{Table}
-use Rattle.table.specs.Account.{Account, fresh, handed_back}
+use Rattle.table.specs.Account.{Account, fresh_account, hold_of}
 use Rattle.table.specs.History.{fresh_of}
 use Rattle.table.specs.Places.{has_held}
 
@@ -35,7 +35,7 @@ module _ {K : Type 0} where
 
   -- the same of a table that is made with this number over this row memory
   abbrev pub frame_over : ℕ → MutBor (List (Option (Task K))) → Account × ℕ × List (Option (Task K))
-  frame_over number places = (fresh number (min (length places.now) MOST_ROWS), places.ghost_name, drop MOST_ROWS places.now)
+  frame_over number places = (fresh_account number (min (length places.now) MOST_ROWS), places.ghost_name, drop MOST_ROWS places.now)
 
   -- These holds are those in hand: each bears the table's number, no two are on one row, and a row stands as held exactly where one is on it.
   pub record InHand (t : Table K) (hs : List Hold) : Type 0 where
@@ -66,6 +66,6 @@ module _ {K : Type 0} where
 
     -- the hold came back: it is of another table, or its row is not held
     pub record HandsBack (h : Hold) (e : SpendRefusal) : Type 0 where
-      pub same : handed_back e ≡ h
+      pub same : hold_of e ≡ h
       pub why : h.table ≡ t.number → IsFalse (has_held t h.row)
       pub held : SameHeld

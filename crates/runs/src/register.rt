@@ -3,7 +3,7 @@ ghost use Rattle.std.specs.Prelude.{◌≡◌, min, [], length, IsTrue, MatchRes
 ghost use Rattle.analysis.specs.declared.TheConstants.{MOST_ROWS};
 ghost use Rattle.analysis.specs.Candidates.{claim_with};
 ghost use Rattle.analysis.specs.Judge.{InTime, RowsAnswered, answers_of};
-ghost use Rattle.table.specs.Account.{fresh};
+ghost use Rattle.table.specs.Account.{fresh_account};
 ghost use Rattle.table.specs.Agreement.{AgreesWith, FollowsAccount, MatchesAccount};
 ghost use Rattle.table.specs.History.{Continues, HasHistory, HasSomeHistory, rows_at};
 ghost use Rattle.table.specs.Memory.{Emptied, SameTable};
@@ -33,7 +33,7 @@ impl<'a, K: Kind + Drop> Register<'a, K> {
     /// most. What stood there is let go.
     pub fn new(number: u8, places: &'a mut [Option<Task<K>>]) -> Register<'a, K>
         ensures agrees { AgreesWith K.demand
-            (fresh number (min (length places.old) MOST_ROWS)) (table_of result) }
+            (fresh_account number (min (length places.old) MOST_ROWS)) (table_of result) }
         ensures history { HasHistory K.demand [] (table_of result) }
         ensures memory { Emptied places.old (table_of result).places.now }
         ensures number { (table_of result).number ≡ number }

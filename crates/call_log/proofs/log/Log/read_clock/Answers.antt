@@ -2,7 +2,7 @@
 use Rattle.std.proofs.Common.{[], subst}
 use Rattle.std.specs.Io.KnownBytes.{Appends}
 use Rattle.call_log.specs.Logs.{clock_due, evening, over}
-use Rattle.table.specs.Account.{fresh}
+use Rattle.table.specs.Account.{fresh_account}
 use Rattle.planfile.specs.Fault.{at_line, line_blame}
 use Rattle.planfile.specs.Report.{refusal_line}
 use Rattle.call_log.proofs.Says.{clock_refused, clock_says}
@@ -17,8 +17,8 @@ returns-in-Ok-clause-tells g c =
     let A = g.W.Write.contents c.args.out.now in
     let B = g.W.Write.contents c.read_due.new.out in
     let table = c.in-Ok.ensures in
-    tells_line l m m A B (clock_due c.args.opening) (evening c.in-Ok.clock (fresh c.args.opening.number c.args.opening.places)) due.0 due.1 due.2
-    (told_text m A B (clock_due c.args.opening) (evening c.in-Ok.clock (fresh c.args.opening.number c.args.opening.places)) [] (appends_none A B due.3) (clock_says m.number c.deref.result.now m.line.items c.deref.ensures.value c.args.opening c.in-Ok.clock table.0 table.1))
+    tells_line l m m A B (clock_due c.args.opening) (evening c.in-Ok.clock (fresh_account c.args.opening.number c.args.opening.places)) due.0 due.1 due.2
+    (told_text m A B (clock_due c.args.opening) (evening c.in-Ok.clock (fresh_account c.args.opening.number c.args.opening.places)) [] (appends_none A B due.3) (clock_says m.number c.deref.result.now m.line.items c.deref.ensures.value c.args.opening c.in-Ok.clock table.0 table.1))
 
 pub returns-in_ok-refuse-in-Err-clause-tells : goal.returns-in_ok-refuse-in-Err-clause-tells
 returns-in_ok-refuse-in-Err-clause-tells g c =
