@@ -129,7 +129,7 @@ pub fn judge<K: Kind>(
 ) -> Result<Answers, JudgeRefusal>
     ensures judged { Judged (claims K.demand places.now newcomer.now) result }
 
-    // What is answered rests on these, which hold of any rows.
+    // These hold of any rows, whatever is answered.
     ensures late_exactly_when_no_plan { LateExactlyWhenNoPlan
         (system_of (claims K.demand places.now newcomer.now)) }
     ensures removal_keeps_in_time { RemovalKeepsInTime (claims K.demand places.now newcomer.now) }
