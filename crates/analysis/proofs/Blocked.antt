@@ -1,5 +1,6 @@
 -- Fewer rows, lower ceilings and less blocking. Assumes nothing.
-use Rattle.std.proofs.Common.{◌≡◌, ℕ, zero, suc, ◌+◌, ◌≤◌, Bool, true, false, cond, eqb, leb, List, ◌∷◌, Some, None, Option, refl, ap, subst, mul-le-mul_left, arith, leb-false, leb-true}
+use Rattle.std.specs.Prelude.{if◌then◌else◌, ◌==◌}
+use Rattle.std.proofs.Common.{◌≡◌, ℕ, zero, suc, ◌+◌, ◌≤◌, Bool, true, false, leb, List, ◌∷◌, Some, None, Option, refl, ap, subst, mul-le-mul_left, arith, leb-false, leb-true}
 use Rattle.analysis.specs.declared.Row.{Row}
 use Rattle.analysis.specs.Locks.{section, greater_of, ceiling, reaches, longest_in_row, longest_in, blocking}
 use Rattle.analysis.specs.Ranks.{Claim, Load, rows, loads_of, loads}
@@ -22,22 +23,22 @@ top_raised_over q (Some c) None h = omega arith
 top_raised_over q (Some c) (Some d) h = omega arith
 
 -- a lower ceiling reaches no more
-blocks_less : (c d : Option ℕ) (p n : ℕ) → top c ≤ top d → cond (reaches c p) n 0 ≤ cond (reaches d p) n 0
+blocks_less : (c d : Option ℕ) (p n : ℕ) → top c ≤ top d → (if reaches c p then n else 0) ≤ (if reaches d p then n else 0)
 blocks_less None d p n h = omega arith
 blocks_less (Some c) None p n h = omega arith
 blocks_less (Some c) (Some d) p n h = go (leb p c) (leb p d) refl refl
   where
-    go : (x y : Bool) → leb p c ≡ x → leb p d ≡ y → cond x n 0 ≤ cond y n 0
+    go : (x y : Bool) → leb p c ≡ x → leb p d ≡ y → (if x then n else 0) ≤ (if y then n else 0)
     go true true e f = omega arith
     go true false e f = let a = leb-true p c e in let b = leb-false p d f in omega arith
     go false y e f = omega arith
 
 -- a row that does or does not use the lock
-used : (x : Bool) (q : ℕ) (c d : Option ℕ) → top c ≤ top d → top (cond x c (Some (greater_of q c))) ≤ top (cond x d (Some (greater_of q d)))
+used : (x : Bool) (q : ℕ) (c d : Option ℕ) → top c ≤ top d → top (if x then c else Some (greater_of q c)) ≤ top (if x then d else Some (greater_of q d))
 used true q c d h = h
 used false q c d h = top_raised q c d h
 
-used_above : (x : Bool) (q : ℕ) (c d : Option ℕ) → top c ≤ top d → top c ≤ top (cond x d (Some (greater_of q d)))
+used_above : (x : Bool) (q : ℕ) (c d : Option ℕ) → top c ≤ top d → top c ≤ top (if x then d else Some (greater_of q d))
 used_above true q c d h = h
 used_above false q c d h = top_raised_over q c d h
 
@@ -46,9 +47,9 @@ pub ceiling_less : {xs ys : List Claim} (lock : ℕ) → SomeOf ◌≡◌ xs ys 
 ceiling_less lock none = omega arith
 ceiling_less lock (keep {a = a} {b = b} {xs = xs} {ys = ys} e s) =
     subst (λ (c : Claim). top (ceiling (rows (a ∷ xs)) lock) ≤ top (ceiling (rows (c ∷ ys)) lock)) e
-    (used (eqb (section a.row lock) 0) a.row.priority _ _ (ceiling_less lock s))
+    (used (section a.row lock == 0) a.row.priority _ _ (ceiling_less lock s))
 ceiling_less lock (leave {b = b} {xs = xs} {ys = ys} s) =
-    used_above (eqb (section b.row lock) 0) b.row.priority _ _ (ceiling_less lock s)
+    used_above (section b.row lock == 0) b.row.priority _ _ (ceiling_less lock s)
 
 module _ (c d : ℕ → Option ℕ) (le : (lock : ℕ) → top (c lock) ≤ top (d lock)) (p : ℕ) where
   longest_of_less : (r : Row) (n : ℕ) → longest_in_row c p r n ≤ longest_in_row d p r n

@@ -1,5 +1,6 @@
 -- Fewer rows above, with less waits, jitter and work, do less. Assumes nothing.
-use Rattle.std.proofs.Common.{◌≡◌, ℕ, ◌/◌, ◌%◌, ◌≤◌, Bool, true, false, cond, List, [], ◌∷◌, arith}
+use Rattle.std.specs.Prelude.{if◌then◌else◌}
+use Rattle.std.proofs.Common.{◌≡◌, ℕ, ◌/◌, ◌%◌, ◌≤◌, Bool, true, false, List, [], ◌∷◌, arith}
 use Rattle.demand.specs.Demand.{widest}
 use Rattle.analysis.specs.Cover.{Above, lowest_bit, waits, working_window, interference}
 
@@ -15,10 +16,10 @@ pub data Easier : List Above → ℕ → List Above → ℕ → Type 0 where
   keep : {x y : Above} {xs ys : List Above} {u v : ℕ} → Milder x y → u % 2 ≡ v % 2 → Easier xs (u / 2) ys (v / 2) → Easier (x ∷ xs) u (y ∷ ys) v
   leave : {y : Above} {xs ys : List Above} {u v : ℕ} → Easier xs u ys (v / 2) → Easier xs u (y ∷ ys) v
 
-cond_mono : (b c : Bool) → b ≡ c → (p q r t : ℕ) → p ≤ q → r ≤ t → cond b p r ≤ cond c q t
+cond_mono : (b c : Bool) → b ≡ c → (p q r t : ℕ) → p ≤ q → r ≤ t → (if b then p else r) ≤ (if c then q else t)
 cond_mono b c e p q r t h k = rw e (go c)
   where
-    go : (d : Bool) → cond d p r ≤ cond d q t
+    go : (d : Bool) → (if d then p else r) ≤ (if d then q else t)
     go true = h
     go false = k
 
@@ -28,7 +29,7 @@ same_choice u v e = rw e
 pub waits_easier : {xs ys : List Above} {u v : ℕ} → Easier xs u ys v → waits xs u ≤ waits ys v
 waits_easier none = omega arith
 waits_easier (keep {x = x} {y = y} {xs = xs} {ys = ys} {u = u} {v = v} m e r) =
-    let first : cond (lowest_bit u) x.wait 0 ≤ cond (lowest_bit v) y.wait 0 = cond_mono (lowest_bit u) (lowest_bit v) (same_choice u v e) _ _ 0 0 m.wait (omega arith) in
+    let first : (if lowest_bit u then x.wait else 0) ≤ (if lowest_bit v then y.wait else 0) = cond_mono (lowest_bit u) (lowest_bit v) (same_choice u v e) _ _ 0 0 m.wait (omega arith) in
     let others : waits xs (u / 2) ≤ waits ys (v / 2) = waits_easier r in
     omega arith
 waits_easier (leave {y = y} {xs = xs} {ys = ys} {u = u} {v = v} r) =
@@ -40,7 +41,7 @@ pub interference_easier : {xs ys : List Above} {u v : ℕ} (q t : ℕ) → q ≤
 interference_easier q t h none = omega arith
 interference_easier q t h (keep {x = x} {y = y} {xs = xs} {ys = ys} {u = u} {v = v} m e r) =
     let whole : waits (x ∷ xs) u ≤ waits (y ∷ ys) v = waits_easier (keep m e r) in
-    let extra : cond (lowest_bit u) 0 x.jitter ≤ cond (lowest_bit v) 0 y.jitter = cond_mono (lowest_bit u) (lowest_bit v) (same_choice u v e) 0 0 _ _ (omega arith) m.jitter in
+    let extra : (if lowest_bit u then 0 else x.jitter) ≤ (if lowest_bit v then 0 else y.jitter) = cond_mono (lowest_bit u) (lowest_bit v) (same_choice u v e) 0 0 _ _ (omega arith) m.jitter in
     let first : x.work (working_window x xs u q) ≤ y.work (working_window y ys v t) =
     m.work (working_window x xs u q) (working_window y ys v t) (omega arith) (omega arith)
     in

@@ -1,5 +1,6 @@
 -- Ranked rows judged from the top down. Assumes nothing.
-use Rattle.std.proofs.Common.{◌≡◌, ℕ, zero, suc, ◌+◌, ◌-◌, ◌*◌, ◌^◌, ◌<◌, ◌≤◌, max, cond, List, [], ◌∷◌, ◌++◌, map, length, get_or, take, drop, None, Option, sym, refl, ap, ◌∙◌, subst, ap₂, subst₂, not-suc-le-zero, add-one, arith}
+use Rattle.std.specs.Prelude.{if◌then◌else◌}
+use Rattle.std.proofs.Common.{◌≡◌, ℕ, zero, suc, ◌+◌, ◌-◌, ◌*◌, ◌^◌, ◌<◌, ◌≤◌, max, List, [], ◌∷◌, ◌++◌, map, length, slice_index_or, take, drop, None, Option, sym, refl, ap, ◌∙◌, subst, ap₂, subst₂, not-suc-le-zero, add-one, arith}
 use mathlib.Core.Path.{subst₃}
 use native.Mathlib.Decide.{ℕ_discrete}
 use Rattle.std.proofs.lemmas.List.{get_or_append_left, get_or_push, length-append, map-append}
@@ -21,19 +22,19 @@ use Rattle.analysis.specs.Ranks.{Claim, Load, wait, rows, loads_of, loads, above
 longest_of_same : (c d : ℕ → Option ℕ) (p : ℕ) (r : Row) (n : ℕ) → ((lock : ℕ) → lock < n → c lock ≡ d lock) → longest_in_row c p r n ≡ longest_in_row d p r n
 longest_of_same c d p r zero e = refl
 longest_of_same c d p r (suc n) e =
-    ap₂ (λ (m : ℕ) (o : Option ℕ). max m (cond (reaches o p) (section r n) 0)) (longest_of_same c d p r n (λ lock h. e lock (omega arith))) (e n (omega arith))
+    ap₂ (λ (m : ℕ) (o : Option ℕ). max m (if reaches o p then section r n else 0)) (longest_of_same c d p r n (λ lock h. e lock (omega arith))) (e n (omega arith))
 
 pub longest_same : (c d : ℕ → Option ℕ) → ((lock : ℕ) → lock < 8 → c lock ≡ d lock) → (p : ℕ) (rs : List Row) → longest_in c p rs ≡ longest_in d p rs
 longest_same c d e p [] = refl
 longest_same c d e p (r ∷ rs) = ap₂ max (longest_of_same c d p r 8 e) (longest_same c d e p rs)
 
 -- the blocking by ceilings that were worked out beforehand
-pub blocked_is : (rs lower : List Rank) (k : ℕ) (ceilings : List (Option ℕ)) → ((lock : ℕ) → lock < 8 → get_or ceilings lock None ≡ ceiling (ranked_rows rs) lock) → lower ≡ drop (k + 1) rs → (n : ℕ) → n ≡ ((get_or rs k no_rank).row.suspensions + 1) * longest_in (λ lock. get_or ceilings lock None) (get_or rs k no_rank).row.priority (ranked_rows lower) → n ≡ blocking (ranked_rows rs) (get_or rs k no_rank).row (ranked_rows (drop (k + 1) rs))
+pub blocked_is : (rs lower : List Rank) (k : ℕ) (ceilings : List (Option ℕ)) → ((lock : ℕ) → lock < 8 → slice_index_or ceilings lock None ≡ ceiling (ranked_rows rs) lock) → lower ≡ drop (k + 1) rs → (n : ℕ) → n ≡ ((slice_index_or rs k no_rank).row.suspensions + 1) * longest_in (λ lock. slice_index_or ceilings lock None) (slice_index_or rs k no_rank).row.priority (ranked_rows lower) → n ≡ blocking (ranked_rows rs) (slice_index_or rs k no_rank).row (ranked_rows (drop (k + 1) rs))
 blocked_is rs lower k ceilings each e n is =
     is
-    ∙ ap (λ (m : ℕ). ((get_or rs k no_rank).row.suspensions + 1) * m)
-    (longest_same (λ lock. get_or ceilings lock None) (ceiling (ranked_rows rs)) each (get_or rs k no_rank).row.priority (ranked_rows lower)
-    ∙ ap (λ (xs : List Rank). longest_in (ceiling (ranked_rows rs)) (get_or rs k no_rank).row.priority (ranked_rows xs)) e)
+    ∙ ap (λ (m : ℕ). ((slice_index_or rs k no_rank).row.suspensions + 1) * m)
+    (longest_same (λ lock. slice_index_or ceilings lock None) (ceiling (ranked_rows rs)) each (slice_index_or rs k no_rank).row.priority (ranked_rows lower)
+    ∙ ap (λ (xs : List Rank). longest_in (ceiling (ranked_rows rs)) (slice_index_or rs k no_rank).row.priority (ranked_rows xs)) e)
 
 abbrev needing : ℕ → List Above → ℕ → ℕ → ℕ
 needing n xs v t = n + interference xs v t
@@ -72,7 +73,7 @@ module _ {K : Type 0} (demand : K → Demand) (places : List (Option (Task K))) 
   rows_of_claims [] = refl
   rows_of_claims (r ∷ rs) = ap (λ xs. r.row ∷ xs) (rows_of_claims rs)
 
-  at_loads : (all : List Row) (rs : List Rank) (k : ℕ) → k < length rs → load_at (loads_of all (map claim rs)) k ≡ record { claim = claim (get_or rs k no_rank); blocked = blocking all (get_or rs k no_rank).row (ranked_rows (drop (suc k) rs)) }
+  at_loads : (all : List Row) (rs : List Rank) (k : ℕ) → k < length rs → load_at (loads_of all (map claim rs)) k ≡ record { claim = claim (slice_index_or rs k no_rank); blocked = blocking all (slice_index_or rs k no_rank).row (ranked_rows (drop (suc k) rs)) }
   at_loads all [] k h = absurd (not-suc-le-zero h)
   at_loads all (r ∷ rs) zero h =
       ap (λ (below : List Row). record { claim = claim r; blocked = blocking all r.row below }) (rows_of_claims rs)
@@ -87,31 +88,31 @@ module _ {K : Type 0} (demand : K → Demand) (places : List (Option (Task K))) 
     pub count : length answers ≡ k
     pub above_count : length higher ≡ k
     pub seen : map above higher ≡ take k (aboves ls (bounds_of answers))
-    pub rows : (j : ℕ) → j < k → RowAnswered (load_at ls j) (get_or answers j no_answer)
+    pub rows : (j : ℕ) → j < k → RowAnswered (load_at ls j) (slice_index_or answers j no_answer)
     pub bounds : Bounds (system ls) k (bounds_of answers) (vectors_of answers)
 
-  module _ (rs : List Rank) (k : ℕ) (within : k < length rs) (blocked : ℕ) (is_blocked : blocked ≡ blocking (ranked_rows rs) (get_or rs k no_rank).row (ranked_rows (drop (k + 1) rs))) where
+  module _ (rs : List Rank) (k : ℕ) (within : k < length rs) (blocked : ℕ) (is_blocked : blocked ≡ blocking (ranked_rows rs) (slice_index_or rs k no_rank).row (ranked_rows (drop (k + 1) rs))) where
     abbrev all_loads : List Load
     all_loads = loads (map claim rs)
 
-    here : load_at all_loads k ≡ record { claim = claim (get_or rs k no_rank); blocked = blocked }
+    here : load_at all_loads k ≡ record { claim = claim (slice_index_or rs k no_rank); blocked = blocked }
     here =
         at_loads (rows (map claim rs)) rs k within
-        ∙ ap (λ (n : ℕ). record { claim = claim (get_or rs k no_rank); blocked = n })
-        (ap₂ (λ (all below : List Row). blocking all (get_or rs k no_rank).row below) (rows_of_claims rs) (ap (λ (n : ℕ). ranked_rows (drop n rs)) (sym (add-one k)))
+        ∙ ap (λ (n : ℕ). record { claim = claim (slice_index_or rs k no_rank); blocked = n })
+        (ap₂ (λ (all below : List Row). blocking all (slice_index_or rs k no_rank).row below) (rows_of_claims rs) (ap (λ (n : ℕ). ranked_rows (drop n rs)) (sym (add-one k)))
         ∙ sym is_blocked)
 
     module _ (answers : List Answer) (higher : List (Higher K)) (so_far : SoFar all_loads k answers higher) where
       -- what holds of the need that the code sees holds of the row's
-      settled : (P : (ℕ → ℕ → ℕ) → ℕ → ℕ → Type 0) → P (need_with demand higher ((claim (get_or rs k no_rank)).demand.own + ((get_or rs k no_rank).row.suspension + blocked))) (get_or rs k no_rank).row.deadline (2 ^ length higher) → P ((system all_loads).need k (bounds_of answers)) ((system all_loads).deadline k) ((system all_loads).vectors k)
+      settled : (P : (ℕ → ℕ → ℕ) → ℕ → ℕ → Type 0) → P (need_with demand higher ((claim (slice_index_or rs k no_rank)).demand.own + ((slice_index_or rs k no_rank).row.suspension + blocked))) (slice_index_or rs k no_rank).row.deadline (2 ^ length higher) → P ((system all_loads).need k (bounds_of answers)) ((system all_loads).deadline k) ((system all_loads).vectors k)
       settled P p =
-          let alone : (claim (get_or rs k no_rank)).demand.own + ((get_or rs k no_rank).row.suspension + blocked) ≡ (load_at all_loads k).claim.demand.own + wait (load_at all_loads k) = sym (ap (λ (l : Load). l.claim.demand.own + wait l) here) in
-          let needs : need_with demand higher ((claim (get_or rs k no_rank)).demand.own + ((get_or rs k no_rank).row.suspension + blocked)) ≡ (system all_loads).need k (bounds_of answers) =
+          let alone : (claim (slice_index_or rs k no_rank)).demand.own + ((slice_index_or rs k no_rank).row.suspension + blocked) ≡ (load_at all_loads k).claim.demand.own + wait (load_at all_loads k) = sym (ap (λ (l : Load). l.claim.demand.own + wait l) here) in
+          let needs : need_with demand higher ((claim (slice_index_or rs k no_rank)).demand.own + ((slice_index_or rs k no_rank).row.suspension + blocked)) ≡ (system all_loads).need k (bounds_of answers) =
           ap₂ needing alone so_far.seen
           in
           subst₃ P needs (sym (ap (λ (l : Load). l.claim.row.deadline) here)) (ap (λ (n : ℕ). 2 ^ n) so_far.above_count) p
 
-      pub first_late : NoCover (need_with demand higher ((claim (get_or rs k no_rank)).demand.own + ((get_or rs k no_rank).row.suspension + blocked))) (get_or rs k no_rank).row.deadline (2 ^ length higher) → FirstLate (system all_loads) k
+      pub first_late : NoCover (need_with demand higher ((claim (slice_index_or rs k no_rank)).demand.own + ((slice_index_or rs k no_rank).row.suspension + blocked))) (slice_index_or rs k no_rank).row.deadline (2 ^ length higher) → FirstLate (system all_loads) k
       first_late none =
           record {
             R = bounds_of answers;
@@ -121,17 +122,17 @@ module _ {K : Type 0} (demand : K → Demand) (places : List (Option (Task K))) 
             none = settled NoCover none;
           }
 
-      pub late_number : (get_or rs k no_rank).row.number ≡ (load_at all_loads k).claim.row.number
+      pub late_number : (slice_index_or rs k no_rank).row.number ≡ (load_at all_loads k).claim.row.number
       late_number = sym (ap (λ (l : Load). l.claim.row.number) here)
 
-      module _ (a : Answer) (h : Higher K) (answered : RankAnswered demand places newcomer higher (get_or rs k no_rank) blocked a h) where
+      module _ (a : Answer) (h : Higher K) (answered : RankAnswered demand places newcomer higher (slice_index_or rs k no_rank) blocked a h) where
         abbrev more : List Answer
         more = answers ++ a ∷ []
 
-        kept_answer : (i : ℕ) → i < k → get_or more i no_answer ≡ get_or answers i no_answer
+        kept_answer : (i : ℕ) → i < k → slice_index_or more i no_answer ≡ slice_index_or answers i no_answer
         kept_answer i l = get_or_append_left answers (a ∷ []) no_answer i (let c = so_far.count in omega arith)
 
-        new_answer : get_or more k no_answer ≡ a
+        new_answer : slice_index_or more k no_answer ≡ a
         new_answer = get_or_push answers a no_answer k so_far.count
 
         kept_bound : (i : ℕ) → i < k → bounds_of answers i ≡ bounds_of more i
@@ -156,7 +157,7 @@ module _ {K : Type 0} (demand : K → Demand) (places : List (Option (Task K))) 
             subst (λ (x : Answer). Bound (system all_loads) (bounds_of more) k x.bound x.vector) (sym new_answer)
             (still_bound k a.bound a.vector (omega arith) (settled (λ n d m. LeastCover n d m a.bound a.vector) answered.bound))
 
-        row_here : RowAnswered (load_at all_loads k) (get_or more k no_answer)
+        row_here : RowAnswered (load_at all_loads k) (slice_index_or more k no_answer)
         row_here =
             subst (λ (x : Answer). RowAnswered (load_at all_loads k) x) (sym new_answer)
             (subst (λ (l : Load). RowAnswered l a) (sym here) (record { number = answered.number; blocking = answered.blocking }))
@@ -183,7 +184,7 @@ module _ {K : Type 0} (demand : K → Demand) (places : List (Option (Task K))) 
               above_count = let c = so_far.above_count in omega (arith, length-append higher (h ∷ []));
               seen = seen_more;
               rows =
-                  up_to (λ j. RowAnswered (load_at all_loads j) (get_or more j no_answer))
+                  up_to (λ j. RowAnswered (load_at all_loads j) (slice_index_or more j no_answer))
                   (λ j l. subst (λ (x : Answer). RowAnswered (load_at all_loads j) x) (sym (kept_answer j l)) (so_far.rows j l)) row_here;
               bounds = up_to (λ j. Bound (system all_loads) (bounds_of more) j (bounds_of more j) (vectors_of more j)) bounds_kept bound_here;
             }

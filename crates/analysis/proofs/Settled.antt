@@ -1,5 +1,6 @@
 -- Every rank has a bound or is late, so that some row is late exactly when no plan brings all in time. Assumes nothing.
-use Rattle.std.proofs.Common.{◌≡◌, ℕ, zero, suc, ◌<◌, ◌≤◌, cond, eqb, ◌⊎◌, sym, refl, ap, subst, subst₂, inl, inr, not-suc-le-zero, arith, eq-eqb, ne_eqb}
+use Rattle.std.specs.Prelude.{if◌then◌else◌, ◌==◌}
+use Rattle.std.proofs.Common.{◌≡◌, ℕ, zero, suc, ◌<◌, ◌≤◌, ◌⊎◌, sym, refl, ap, subst, subst₂, inl, inr, not-suc-le-zero, arith, eq-eqb, ne_eqb}
 use native.Mathlib.Decide.{dec_le, dec_lt, ℕ_discrete}
 use Rattle.analysis.specs.Plans.{System, Window, Bound, Bounds, FirstLate, LateExactlyWhenNoPlan}
 use Rattle.analysis.proofs.Best.{Grows, window_kept, late_settled, in_time_settled}
@@ -54,15 +55,15 @@ bound_moved s grows R Q k t v same b =
 
 -- f, but a at n
 pub put : (ℕ → ℕ) → ℕ → ℕ → ℕ → ℕ
-put f n a k = cond (eqb k n) a (f k)
+put f n a k = if k == n then a else f k
 
 put_here : (f : ℕ → ℕ) (n a : ℕ) → put f n a n ≡ a
 unfolding put
-put_here f n a = ap (λ b. cond b a (f n)) (eq-eqb n n refl)
+put_here f n a = ap (λ b. if b then a else f n) (eq-eqb n n refl)
 
 put_other : (f : ℕ → ℕ) (n a k : ℕ) → k < n → put f n a k ≡ f k
 unfolding put
-put_other f n a k h = ap (λ b. cond b a (f k)) (ne_eqb k n (omega arith))
+put_other f n a k h = ap (λ b. if b then a else f k) (ne_eqb k n (omega arith))
 
 -- one rank more
 pub bounds_more : (s : System) → Grows s → (n : ℕ) (Q W : ℕ → ℕ) → Bounds s n Q W → (b w : ℕ) → Bound s Q n b w → Bounds s (suc n) (put Q n b) (put W n w)

@@ -20,19 +20,22 @@ module _ {K : Type 0} (demand : K → Demand) (places : List (Option (Task K))) 
   abbrev pub demand_at : Rank → Demand
   demand_at r = demand_of demand (candidate places newcomer r.place)
 
+  -- what the row of a rank needs by a window under a vector: its own job, its wait, and the work of the rows above it
+  abbrev pub need_at : List (Higher K) → Rank → ℕ → ℕ → ℕ → ℕ
+  need_at higher r blocked = need_with demand higher ((demand_at r).own + (r.row.suspension + blocked))
+
   -- the answer for one rank under those above it, and how the rows below meet it
   pub record RankAnswered (higher : List (Higher K)) (r : Rank) (blocked : ℕ) (a : Answer) (h : Higher K) : Type 0 where
     pub number : a.number ≡ r.row.number
     pub blocking : a.blocking ≡ blocked
-    pub bound : LeastCover (need_with demand higher ((demand_at r).own + (r.row.suspension + blocked))) r.row.deadline (2 ^ length higher) a.bound a.vector
+    pub bound : LeastCover (need_at higher r blocked) r.row.deadline (2 ^ length higher) a.bound a.vector
     pub kind : kind_demand demand h.kind ≡ demand_at r
     pub wait : h.wait ≡ r.row.suspension + blocked
     pub jitter : h.jitter ≡ a.bound - (demand_at r).least
 
   -- what is answered for one rank: as above, or none where no window covers
   abbrev pub RankJudged : List (Higher K) → Rank → ℕ → Option (Answer × Higher K) → Type 0
-  RankJudged higher r blocked None =
-      NoCover (need_with demand higher ((demand_at r).own + (r.row.suspension + blocked))) r.row.deadline (2 ^ length higher)
+  RankJudged higher r blocked None = NoCover (need_at higher r blocked) r.row.deadline (2 ^ length higher)
   RankJudged higher r blocked (Some p) = RankAnswered higher r blocked p.0 p.1
 
 -- what stands behind the last answer

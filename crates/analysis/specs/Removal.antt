@@ -29,4 +29,5 @@ pub record InTimeStill (rest all : List Claim) (R : ℕ → ℕ) : Type 0 where
 -- Where all rows are in time and no two share a priority, taking some out leaves the rest in time, with bounds no larger.
 abbrev pub RemovalKeepsInTime : List Claim → Type 0
 RemovalKeepsInTime all =
-    (R V : ℕ → ℕ) → Bounds (system_of all) (length all) R V → DistinctPriorities all → (rest : List Claim) → SomeOf ◌≡◌ rest all → InTimeStill rest all R
+    (R V : ℕ → ℕ) → Bounds (system_of all) (length all) R V → DistinctPriorities all
+    → (rest : List Claim) → SomeOf ◌≡◌ rest all → InTimeStill rest all R

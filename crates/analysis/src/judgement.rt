@@ -74,6 +74,14 @@ impl<'a, K: Kind> Candidates<'a, K> {
         }
         Ok(answers)
     }
+
+    // The answers for all of them, unless they are too many or some row is late.
+    fn judge_all(&self) -> Result<Answers, JudgeRefusal>
+        ensures { Judged (claims K.demand self.now.places.now self.now.newcomer.now) result }
+    {
+        let ranks = self.ranks()?;
+        self.judge_ranked(ranks.as_slice())
+    }
 }
 
 /// Why a set of tasks gets no answers.
@@ -121,7 +129,7 @@ pub fn judge<K: Kind>(
 ) -> Result<Answers, JudgeRefusal>
     ensures judged { Judged (claims K.demand places.now newcomer.now) result }
 
-    // What is answered rests on these, which hold of any rows.
+    // These hold of any rows, whatever is answered.
     ensures late_exactly_when_no_plan { LateExactlyWhenNoPlan
         (system_of (claims K.demand places.now newcomer.now)) }
     ensures removal_keeps_in_time { RemovalKeepsInTime (claims K.demand places.now newcomer.now) }
@@ -130,6 +138,5 @@ pub fn judge<K: Kind>(
         HighestFirst rows (ranking rows) }
 {
     let candidates = Candidates { places, newcomer };
-    let ranks = candidates.ranks()?;
-    candidates.judge_ranked(ranks.as_slice())
+    candidates.judge_all()
 }

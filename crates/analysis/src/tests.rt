@@ -104,3 +104,12 @@ fn ceilings_of_three_rows(rt: HostRuntime) {
     expected[5] = Some(20);
     assert_eq!(rt; ceilings, expected);
 }
+
+#[test]
+fn refusals_in_words(rt: HostRuntime) -> Result<(), Fail> {
+    let many = format!(in rt.alloc(); "{}", JudgeRefusal::TooMany)?;
+    assert_eq!(rt; many.as_str(), "check 10: there are more than 12 rows");
+    let late = format!(in rt.alloc(); "{}", JudgeRefusal::Late(3))?;
+    assert_eq!(rt; late.as_str(), "check 11: row 3 can miss its deadline");
+    Ok(())
+}
