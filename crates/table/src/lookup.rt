@@ -81,7 +81,10 @@ impl<'a, K: Kind + Drop> Table<'a, K> {
     pub(crate) fn free_places(&self) -> usize
         ensures { result ≡ length (filter is_none (take MOST_ROWS self.now.places.now)) }
     {
-        self.used_places().iter().filter(|place| place.is_none()).count()
+        self.used_places()
+            .iter()
+            .filter(|place| place.is_none())
+            .count()
     }
 
     // What stands at the place that names this number, and `Free` where none does.
