@@ -1,5 +1,5 @@
 -- The rows and holds of an account are those that the run says. Assumes nothing.
-use Rattle.std.proofs.Common.{ℕ, List, [], ◌∷◌, Ok, Err, inl, inr, ap, sym, not-suc-le-zero, arith}
+use Rattle.std.proofs.Common.{ℕ, List, [], ◌∷◌, Ok, Err, sym, not-suc-le-zero, arith}
 use Rattle.std.specs.Prelude.{Contains}
 use Rattle.analysis.specs.Ranks.{Claim}
 use Rattle.table.specs.Account.{Account, Bears, number_of, fresh_account, has_unspent}
@@ -14,16 +14,7 @@ abbrev pub Standing : Claim → List Claim → List Event → Type 0
 Standing c cs es = (Contains cs c → Stands c es) × (Stands c es → Contains cs c)
 
 standing_step : (c : Claim) (a b : Account) (es : List Event) (e : Event) → Step a e b → Standing c a.rows es → Standing c b.rows (e ∷ es)
-standing_step c a b es (holding d (Ok h)) step s = rw step.1.1 (
-  λ m. elim (first_or_later d a.rows m) [
-    | inl e ↦ inl e
-    | inr later ↦ inr (λ x. x, s.0 later)
-  ],
-  λ x. elim x [
-    | inl e ↦ is_first a.rows e
-    | inr stands ↦ is_later d a.rows (s.1 stands.1)
-  ],
-)
+standing_step c a b es (holding d (Ok h)) step s = rw step.1.1 (grind (arith, first_or_later {x = c} d a.rows, is_first {x = c} {y = d} a.rows, is_later {x = c} d a.rows, s.0, s.1))
 standing_step c a b es (holding d (Err e)) step s = rw step.1.1 (grind (arith, s.0, s.1))
 standing_step c a b es (keeping h (Ok u)) step s = rw step.1 (grind (arith, s.0, s.1))
 standing_step c a b es (keeping h (Err e)) step s = rw step.2 (grind (arith, s.0, s.1))
@@ -47,16 +38,7 @@ abbrev pub HeldNow : ℕ → Account → List Event → Type 0
 HeldNow n a es = (Contains a.holds (it a n) → Unspent n es) × (Unspent n es → Contains a.holds (it a n))
 
 held_step : (n : ℕ) (a b : Account) (es : List Event) (e : Event) → Sound a → Step a e b → HeldNow n a es → HeldNow n b (e ∷ es)
-held_step n a b es (holding d (Ok h)) s step p = rw step.1.1 (
-  λ m. elim (first_or_later (it a (number_of d)) a.holds m) [
-    | inl e ↦ inl (ap (λ (x : Bears). x.row) e)
-    | inr later ↦ inr (λ x. x, p.0 later)
-  ],
-  λ x. elim x [
-    | inl e ↦ is_first a.holds (ap (it a) e)
-    | inr unspent ↦ is_later (it a (number_of d)) a.holds (p.1 unspent.1)
-  ],
-)
+held_step n a b es (holding d (Ok h)) s step p = rw step.1.1 (grind (arith, first_or_later {x = it a n} (it a (number_of d)) a.holds, is_first {x = it a n} {y = it a (number_of d)} a.holds, is_later {x = it a n} (it a (number_of d)) a.holds, p.0, p.1))
 held_step n a b es (holding d (Err e)) s step p = rw step.1.1 (grind (arith, p.0, p.1))
 held_step n a b es (keeping h (Ok u)) s step p = rw step.1 (let own = unspent_own a.number a.rows h.table h.row a.holds s.holds (is_unspent (has_unspent h.table h.row a.holds) step.0) in grind (arith, was_unspent (it a n) h.table h.row a.holds (sym own), stays_unspent (it a n) h.table h.row a.holds, p.0, p.1))
 held_step n a b es (keeping h (Err e)) s step p = rw step.2 (grind (arith, p.0, p.1))

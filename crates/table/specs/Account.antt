@@ -8,7 +8,7 @@ use Rattle.std.specs.Bool.{beq}
 use Rattle.std.specs.List.{filter, list_any}
 use Rattle.table.specs.declared.TheConstants.{LARGEST_NUMBER, LARGEST_PRIORITY, LONGEST_SUSPENSION, MOST_SUSPENSIONS}
 use Rattle.analysis.specs.declared.answers.Answers.{Answers}
-use Rattle.analysis.specs.Judge.{Answered, LateRow, answers_of}
+use Rattle.analysis.specs.Judge.{LateRow, RowsAnswered, answers_of}
 use Rattle.analysis.specs.Plans.{Bounds}
 use Rattle.analysis.specs.Ranks.{Claim, ranking, loads, load_at, system_of}
 use Rattle.table.specs.declared.hold.Hold.{Hold}
@@ -164,7 +164,7 @@ hold_part (Err e) = Err e
 
 -- the same, where all rows are answered too, the new one among them
 abbrev pub HoldsAnswered : Account → Claim → Result (Hold × Answers) HoldRefusal → Account → Type 0
-HoldsAnswered a c (Ok p) b = Holds a c (Ok p.0) b × Answered (loads (ranking (c ∷ a.rows))) (answers_of p.1)
+HoldsAnswered a c (Ok p) b = Holds a c (Ok p.0) b × RowsAnswered (c ∷ a.rows) (answers_of p.1)
 HoldsAnswered a c (Err e) b = Holds a c (Err e) b
 
 -- a hold bears these two numbers

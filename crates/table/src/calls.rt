@@ -45,7 +45,7 @@ fn clear<K: Drop>(places: &mut [Option<Task<K>>])
 }
 
 // Empties the places that a table may use.
-fn empty<K: Drop>(places: &mut [Option<Task<K>>])
+fn empty_places<K: Drop>(places: &mut [Option<Task<K>>])
     ensures { Emptied places.old places.new }
 {
     let limit = places.len().min(MOST_ROWS);
@@ -65,7 +65,7 @@ impl<'a, K: Kind + Drop> Table<'a, K> {
         ensures number { result.number ≡ number }
         ensures lent { result.places.ghost_name ≡ places.entry.ghost_name }
     {
-        empty(places);
+        empty_places(places);
         Table {
             number,
             states: [State::Free; MOST_ROWS],
@@ -119,7 +119,7 @@ impl<'a, K: Kind + Drop> Table<'a, K> {
         self.check_row(&row, &kind)?;
         let place = self.place_in(State::Free).ok_or(HoldRefusal::NoPlace)?;
         let newcomer = Some(Task { row, kind });
-        let answers = self.judged(&newcomer)?;
+        let answers = self.judgement(&newcomer)?;
         self.put(place, newcomer, State::Held(row.number));
         let hold = Hold {
             table: self.number,

@@ -30,7 +30,7 @@ pub(crate) fn find_answer(answers: &[Answer], number: u32) -> Option<(u32, u32)>
 
 impl<'a, K: Kind + Drop> Table<'a, K> {
     // The places that the table uses: the first `MOST_ROWS` at most.
-    pub(crate) fn used(&self) -> &[Option<Task<K>>]
+    pub(crate) fn used_places(&self) -> &[Option<Task<K>>]
         ensures { result.now ≡ take MOST_ROWS self.now.places.now }
     {
         &self.places[..self.places.len().min(MOST_ROWS)]
@@ -40,7 +40,7 @@ impl<'a, K: Kind + Drop> Table<'a, K> {
     fn used_states(&self) -> &[State]
         ensures { result.now ≡ take (length self.now.places.now) self.now.states }
     {
-        &self.states[..self.used().len()]
+        &self.states[..self.used_places().len()]
     }
 
     // A place that names this number.
@@ -71,7 +71,7 @@ impl<'a, K: Kind + Drop> Table<'a, K> {
         ensures { MatchesAccount K.demand
             (λ a. result ≡ has_priority priority a.rows) self.now }
     {
-        self.used()
+        self.used_places()
             .iter()
             .flatten()
             .any(|task| task.row.priority == priority)
@@ -81,7 +81,10 @@ impl<'a, K: Kind + Drop> Table<'a, K> {
     pub(crate) fn free_places(&self) -> usize
         ensures { result ≡ length (filter is_none (take MOST_ROWS self.now.places.now)) }
     {
-        self.used().iter().filter(|place| place.is_none()).count()
+        self.used_places()
+            .iter()
+            .filter(|place| place.is_none())
+            .count()
     }
 
     // What stands at the place that names this number, and `Free` where none does.
@@ -96,9 +99,10 @@ impl<'a, K: Kind + Drop> Table<'a, K> {
     }
 
     // The judgement of the rows at the places, and of a newcomer.
-    pub(crate) fn judged(&self, newcomer: &Option<Task<K>>) -> Result<Answers, JudgeRefusal>
-        ensures { Judged (claims K.demand (take MOST_ROWS self.now.places.now) newcomer.now) result }
+    pub(crate) fn judgement(&self, newcomer: &Option<Task<K>>) -> Result<Answers, JudgeRefusal>
+        ensures { Judged
+            (claims K.demand (take MOST_ROWS self.now.places.now) newcomer.now) result }
     {
-        judge(self.used(), newcomer)
+        judge(self.used_places(), newcomer)
     }
 }

@@ -33,7 +33,7 @@ impl<'a, K: Kind + Drop> Table<'a, K> {
         ensures in_time { IfOk result
             (λ all. InTime (rows_at K.demand self.now) (answers_of all)) }
     {
-        self.judged(&None)
+        self.judgement(&None)
     }
 
     /// Whether the row of this number is held or kept, and `Free` where there is no such row.

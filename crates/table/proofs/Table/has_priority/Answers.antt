@@ -12,6 +12,6 @@ use Rattle.table.proofs.Table.has_priority.Goals as goal
 pub returns : goal.returns
 returns g c a agrees =
     any_from_yields_List {v = λ x. x.now} (λ (t : Task g.row.K.Denot). eqb t.row.priority c.args.priority) _ _ _ c.any.ensures.ran
-    (YieldsList-from_flatten _ _ (λ x. x.now) option_to_list (λ x j b. given_at j x.now b.0 b.1) (YieldsList-at c.flatten.ensures.source (YieldsList-from_slice c.used.result.now cc)) c.flatten.ensures.front c.flatten.ensures.back c.flatten.ensures.done)
+    (YieldsList-from_flatten _ _ (λ x. x.now) option_to_list (λ x j b. given_at j x.now b.0 b.1) (YieldsList-at c.flatten.ensures.source (YieldsList-from_slice c.used_places.result.now cc)) c.flatten.ensures.front c.flatten.ensures.back c.flatten.ensures.done)
     (λ x b q k. search (rules, tests))
-    ∙ rw c.used.ensures (priority_is g.K.Kind.demand c.args.priority (take 12 c.args.self.now.places.now) ∙ priority_found c.args.self.now agrees c.args.priority)
+    ∙ rw c.used_places.ensures (priority_is g.K.Kind.demand c.args.priority (take 12 c.args.self.now.places.now) ∙ priority_found c.args.self.now agrees c.args.priority)
