@@ -17,7 +17,7 @@ pub struct HoldId {
 }
 
 /// A call on a table, of rows whose demand is of the kind `K`.
-#[derive(Drop)]
+#[derive(Debug, PartialEq, Eq, Drop)]
 pub enum Call<K> {
     /// Holds a row, if all rows are in time with it. The hold comes to hand.
     Hold(Task<K>),
