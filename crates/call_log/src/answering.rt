@@ -75,7 +75,7 @@ impl<R: Read + Drop> Log<R> {
         ensures same { SameLog self.old self.new }
     {
         self.well_formed = false;
-        tell(heap, out, Response::Refused(line, fault.blame()))
+        tell(heap, out, Response::refusal(line, fault))
     }
 
     // Reads a line that is due. Where none comes the log is refused.

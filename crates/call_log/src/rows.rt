@@ -33,7 +33,10 @@ fn push_rows(
         (table_of desk.now)) }
 {
     for answer in answers {
-        let row = Response::Row(*answer, is_held(desk, answer.number));
+        let row = Response::Row {
+            answer: *answer,
+            held: is_held(desk, answer.number),
+        };
         write!(text, "{row}")?;
     }
     Ok(())
