@@ -53,6 +53,8 @@ begins with `table`, a refusal ends it. A line that is refused by 18 in an eveni
 Exit status: 0 where every line was well formed (5 to 14 are answers), 1 where some line was refused by 1
 to 4 or 15 to 18, 2 if reading or writing fails, for want of memory, or for an unknown argument.
 
+An argument that begins with - is unknown, but for --help; behind -- each is the name of a file.
+
 Example. One table of twelve places, where a car is held and then kept:
 
 table\t1\t12

@@ -2,6 +2,8 @@
 //! answers a log; this program opens the files, says what went wrong, and ends with a status. Begin with `run`.
 #![tactic(auto)]
 
+ghost use Rattle.std.specs.Prelude.{◌≤◌, length};
+
 mod help;
 #[cfg(test)]
 mod tests;
@@ -102,13 +104,29 @@ fn answer_files<W: Write>(
     Ok(worst)
 }
 
+// Takes the first `--` out of the arguments. The answer is how many may be options: those behind it are names of files.
+fn end_options(args: &mut Vec<String>) -> usize
+    ensures { result ≤ length args.new.items }
+{
+    match args.iter().position(|arg| arg.as_str() == "--") {
+        Some(end) => {
+            let _ = args.remove(end);
+            end
+        }
+        None => args.len(),
+    }
+}
+
 fn run(rt: &HostRuntime) -> anyhow::Result<Outcome> {
-    let args: Vec<String> = env::args(rt)?.skip(1).collect(rt.alloc())?;
-    if args.iter().any(|arg| arg.as_str() == "--help") {
-        rt.print(HELP)?;
+    let args = env::args(rt).context("arguments")?;
+    let mut args: Vec<String> = args.skip(1).collect(rt.alloc())?;
+    let end = end_options(&mut args);
+    let options = &args[..end];
+    if options.iter().any(|arg| arg.as_str() == "--help") {
+        rt.print(HELP).context("standard output")?;
         return Ok(Outcome::WellFormed);
     }
-    if let Some(unknown) = args.iter().find(|arg| arg.starts_with('-')) {
+    if let Some(unknown) = options.iter().find(|arg| arg.starts_with('-')) {
         return Err(anyhow!("unknown argument {unknown}; replay --help says what there is"));
     }
     let mut out = Output::new(io::writer(rt));

@@ -4,7 +4,7 @@ use analysis::Answer;
 use call_log::replay;
 use demand::Factor;
 use planfile::{
-    Blame, LONGEST_LINE, LineFault, Opening, Request, Response, read_clock_line, read_opening,
+    LONGEST_LINE, LineFault, Opening, Request, Response, read_clock_line, read_opening,
     read_request,
 };
 use runs::{Call, HoldId, NotHeld, Reply};
@@ -309,13 +309,12 @@ fn read_lines(rt: HostRuntime) -> Result<(), Fail> {
 #[test]
 fn responses(rt: HostRuntime) -> Result<(), Fail> {
     let heap = rt.alloc();
-    let late = Blame {
-        number: 11,
-        line: 0,
+    let refused = Response::Refused {
+        line: 9,
         field: 0,
+        number: 11,
         late: 3,
     };
-    let refused = Response::Refused(9, late);
     assert_eq!(rt; Response::of(9, 7, Reply::Keep(Ok(()))), Response::Kept(7));
     assert_eq!(rt;
         Response::of(9, 7, Reply::Hold(Err(HoldRefusal::Late(3)))),
@@ -323,17 +322,20 @@ fn responses(rt: HostRuntime) -> Result<(), Fail> {
     );
     assert_eq!(rt;
         Response::of(9, 7, Reply::Bound(Ok((14, 2)))),
-        Response::Bounded(7, 14, 2)
+        Response::Bounded {
+            row: 7,
+            bound: 14,
+            vector: 2,
+        }
     );
     assert_eq!(rt;
         Response::of(9, 7, Reply::Release(Err(NotHeld))),
-        Response::Refused(
-            9,
-            Blame {
-                number: 12,
-                ..Blame::default()
-            }
-        )
+        Response::Refused {
+            line: 9,
+            field: 0,
+            number: 12,
+            late: 0,
+        }
     );
     let answer = Answer {
         number: 3,
@@ -341,7 +343,14 @@ fn responses(rt: HostRuntime) -> Result<(), Fail> {
         vector: 2,
         blocking: 0,
     };
-    let held = format!(in heap; "{refused}{}", Response::Row(answer, true))?;
+    assert_eq!(rt;
+        Response::refusal(4, LineFault::Word(1))
+            .to_string(heap)?
+            .as_str(),
+        "refused\t4\t1\t17\t0\n"
+    );
+    let row = Response::Row { answer, held: true };
+    let held = format!(in heap; "{refused}{row}")?;
     assert_eq!(rt;
         held.as_str(),
         "refused\t9\t0\t11\t3\nrow\t3\t14\t2\t0\theld\n"
