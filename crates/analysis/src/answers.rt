@@ -1,14 +1,11 @@
-// What is answered for a set that is in time.
+//! What is answered for a set that is in time.
 ghost use Rattle.std.specs.Prelude.{◌≡◌, ◌+◌, ◌<◌, ◌≤◌, [], ◌∷◌, ◌++◌};
 ghost use Rattle.analysis.specs.declared.TheConstants.{MOST_ROWS};
 
 use super::{Answer, MOST_ROWS};
 
 /// The answers for the rows of a set that is in time: as many as there are rows, so at most [`MOST_ROWS`].
-///
-/// Two of them are equal where [`rows`](Answers::rows) gives the same.
-// A caller can copy them, as it could not copy an `ArrayVec`. The entries behind the count are always the default, so the
-// derived comparison goes by the rows.
+// The entries behind the count are always the default, so the derived comparison goes by the rows.
 #[derive(Clone, Copy, Debug, PartialEq, Eq)]
 pub struct Answers {
     pub(crate) count: usize,

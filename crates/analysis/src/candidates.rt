@@ -1,4 +1,4 @@
-// The tasks that are judged together.
+//! The tasks that are judged together.
 ghost use Rattle.std.specs.Prelude.{◌≡◌};
 ghost use Rattle.analysis.specs.Candidates.{candidate, demand_of, kind_demand};
 

@@ -1,4 +1,4 @@
-// What a row needs by a window, under a vector. Sums beyond u64 count as its largest number.
+//! What a row needs by a window, under a vector. Sums beyond u64 count as its largest number.
 ghost use Rattle.std.specs.Prelude.{◌≡◌, ◌+◌, if◌then◌else◌};
 ghost use Rattle.demand.specs.Demand.{window as in_u32};
 ghost use Rattle.analysis.specs.Candidates.{need_with, work_of};

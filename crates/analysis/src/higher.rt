@@ -1,4 +1,4 @@
-// The rows above one, as it meets them.
+//! The rows above one, as it meets them.
 ghost use Rattle.std.specs.Prelude.{◌≡◌};
 ghost use Rattle.analysis.specs.Candidates.{work_of};
 

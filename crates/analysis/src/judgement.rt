@@ -1,4 +1,4 @@
-// Whether a set of tasks meets its deadlines.
+//! Whether a set of tasks meets its deadlines.
 ghost use Rattle.std.specs.Prelude.{◌≡◌, ◌+◌, ◌^◌, ◌≤◌, length};
 ghost use Rattle.analysis.specs.Candidates.{RanksAll, claims, kind_demand};
 ghost use Rattle.analysis.specs.Judge.{Judged, RankJudged, judge_number};

@@ -59,8 +59,6 @@ pub struct Task<K> {
 }
 
 /// A row among ranked rows, highest priority first, and the place that it was found at.
-// The place is a number and not a reference to the task: ceilings and blocking go by rows alone, for callers too, and ranks
-// with kinds would have to be listed twice.
 #[derive(Clone, Copy, Debug, Default, PartialEq, Eq)]
 pub struct Rank {
     /// The numbers of the task.

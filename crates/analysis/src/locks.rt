@@ -1,4 +1,4 @@
-// Ceilings of locks, and how long a row can be blocked.
+//! Ceilings of locks, and how long a row can be blocked.
 ghost use Rattle.std.specs.Prelude.{◌≡◌, ℕ, ◌+◌, ◌*◌, ◌^◌, ◌<◌, ◌≤◌, length, if◌then◌else◌};
 ghost use Rattle.analysis.specs.Locks.{ceiling, ceiling_at, greater_of, longest_in, longest_in_row, reaches};
 ghost use Rattle.analysis.specs.Places.{ranked_rows};

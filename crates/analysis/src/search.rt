@@ -1,4 +1,4 @@
-// The search for a row's bound and vector.
+//! The search for a row's bound and vector.
 ghost use Rattle.std.specs.Prelude.{◌^◌, length};
 ghost use Rattle.analysis.specs.Candidates.{need_with};
 ghost use Rattle.analysis.specs.Plans.{Searched};

@@ -1,4 +1,4 @@
-// Worked examples of each public call, run on the code.
+//! Worked examples of each public call, run on the code.
 use super::*;
 use demand::Every;
 use std::test::Fail;

@@ -97,7 +97,7 @@ module _ {R : Type 0} {reads : Ghosts R} where
   ReadsDue l m before after false =
       ReadsLine l false m × (m.well_formed ≡ false) × Appends before after (refusal_line (by_number 18))
 
-  -- The line at hand was answered, and the log is as it was: this came of it.
+  -- The line at hand was answered, and this came of it. The line, its number and what is left of the log are as they were.
   pub record AnswersLine (l m : Log R reads) (before after : Option (List ℕ)) (s t : Stage) : Type 0 where
     pub turn : Turn
     pub says : LineSays s l.number l.line.items turn

@@ -202,7 +202,7 @@ impl<R: Read + Drop> Log<R> {
 }
 
 /// Reads a log, and writes what each of its lines is answered before the next line is read. The answer is whether all lines were
-/// well formed: refused by none of the checks 1 to 4 and 15 to 18.
+/// well formed: refused by none of the checks 1 to 4 and 15 to 18, and none missing where a table line or a clock line is due.
 ///
 /// An error is one of reading or of writing, or want of memory. Nothing is promised then: what was written till then stands, and
 /// may be any part of what is written for the log, up to the middle of a line. Nor is anything promised where the bytes of the

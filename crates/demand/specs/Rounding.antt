@@ -1,5 +1,5 @@
 -- Division that rounds up. Assumes nothing.
--- How to read it: theorems with their proofs, about `divided_up n d`, where d is not 0. Laws.antt and Runs.antt use them.
+-- How to read it: theorems with their proofs, about `div_up n d`, where d is not 0. Laws.antt and Runs.antt use them.
 use Rattle.std.specs.Prelude.{◌≡◌, ℕ, ◌+◌, ◌-◌, ◌*◌, ◌/◌, ◌%◌, ◌<◌, ◌≤◌, min, ◌≢◌}
 use Rattle.std.proofs.Common.{⊎_elim, add-mul, div-add-mod', arith}
 use Rattle.std.proofs.Math.Nat.{div-eq_of_lt-le}

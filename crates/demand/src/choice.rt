@@ -1,4 +1,4 @@
-// The kind that is one of two.
+//! The kind that is one of two.
 ghost use Rattle.demand.specs.Made.{either_demand};
 ghost use Rattle.demand.specs.Laws.{either_lawful};
 

@@ -1,4 +1,4 @@
-// The kind whose jobs may come late.
+//! The kind whose jobs may come late.
 ghost use Rattle.std.specs.Prelude.{◌≡◌, IfOk};
 ghost use Rattle.demand.specs.Made.{delay_of, delayed_demand};
 ghost use Rattle.demand.specs.Refusals.{answer_number, delayed_checks, first};

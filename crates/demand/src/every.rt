@@ -1,4 +1,4 @@
-// The kind whose jobs all take the same time.
+//! The kind whose jobs all take the same time.
 ghost use Rattle.std.specs.Prelude.{◌≡◌, IfOk};
 ghost use Rattle.demand.specs.Basic.{every_demand};
 ghost use Rattle.demand.specs.Refusals.{answer_number, every_checks, first};

@@ -1,4 +1,4 @@
-// How many times as long jobs take.
+//! How many times as long jobs take.
 ghost use Rattle.std.specs.Prelude.{◌≡◌, IfOk};
 ghost use Rattle.demand.specs.Made.{denominator_of, numerator_of, times_down, times_up};
 ghost use Rattle.demand.specs.Refusals.{answer_number, first, slowed_checks};
@@ -6,13 +6,11 @@ ghost use Rattle.demand.specs.Refusals.{answer_number, first, slowed_checks};
 use super::{KindRefusal, LARGEST_PART, div_up, up_to_cap};
 
 /// How many times as long jobs take: `numerator / denominator`, which is 1 or more.
-///
-/// Each part counts as the nearest from 1 to [`LARGEST_PART`], and the numerator as at least the denominator.
 #[derive(Clone, Copy, PartialEq, Eq, Debug)]
 pub struct Factor {
-    /// At least the denominator, and at most [`LARGEST_PART`].
+    /// Counts as the nearest from 1 to [`LARGEST_PART`], and as at least the denominator.
     pub numerator: u32,
-    /// 1 to [`LARGEST_PART`].
+    /// Counts as the nearest from 1 to [`LARGEST_PART`].
     pub denominator: u32,
 }
 

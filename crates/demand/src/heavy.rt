@@ -1,4 +1,4 @@
-// The kind with one heavy job among so many.
+//! The kind with one heavy job among so many.
 ghost use Rattle.std.specs.Prelude.{◌≡◌, ◌^◌, ◌<◌, IfOk};
 ghost use Rattle.demand.specs.Basic.{from_heavy, heavy_demand, largest_total, length_of_heavy, length_of_job, length_of_pattern};
 ghost use Rattle.demand.specs.Refusals.{answer_number, first, heavy_checks};

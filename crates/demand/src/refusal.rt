@@ -1,4 +1,4 @@
-// Why the numbers of a kind are refused.
+//! Why the numbers of a kind are refused.
 ghost use Rattle.std.specs.Prelude.{◌≡◌};
 ghost use Rattle.demand.specs.Refusals.{refusal_number};
 

@@ -1,4 +1,4 @@
-// The kind whose jobs take longer, by a factor.
+//! The kind whose jobs take longer, by a factor.
 ghost use Rattle.std.specs.Prelude.{◌≡◌, IfOk};
 ghost use Rattle.demand.specs.Made.{slowed_demand};
 ghost use Rattle.demand.specs.Refusals.{answer_number, first, slowed_checks};

@@ -1,4 +1,4 @@
-// The figures and limits of the kinds, and a worked example of each public call, run on the code.
+//! The figures and limits of the kinds, and a worked example of each public call, run on the code.
 use super::*;
 use std::test::Fail;
 

@@ -24,7 +24,7 @@ pub(crate) enum Line {
     Ask(Question),
 }
 
-// What is wrong with a line. It is no `anyhow::Error`, which costs more to hand on from each number than the number.
+// What is wrong with a line.
 #[derive(Drop)]
 pub(crate) enum LineError {
     Word,

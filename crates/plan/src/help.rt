@@ -1,4 +1,4 @@
-// What `plan --help` prints.
+//! What `plan --help` prints.
 pub(crate) const HELP: &str = "\
 plan: reads plan files, and prints the report of each, or its refusal
 

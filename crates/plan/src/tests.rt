@@ -1,4 +1,4 @@
-// Bad input, input at its limits, and a worked example of each public call of `planfile`, run on the code.
+//! Bad input, input at its limits, and a worked example of each public call of `planfile`, run on the code.
 use demand::KindRefusal;
 use planfile::{
     Blame, Fault, FieldFault, LONGEST_FILE, LineFault, REPORT_MEMORY, answer, load, read_number,

@@ -17,12 +17,12 @@ take_front (suc n) [] ys = refl
 take_front (suc n) (x ∷ xs) ys = ap (λ zs. x ∷ zs) (take_front n xs ys)
 
 -- a line keeps its first twenty fields
-module _ (kept : List (Bor (List ℕ))) (fs : List (List ℕ)) (first_twenty : map (λ f. f.now) kept ≡ take 20 fs) (k : ℕ) (few : k < 20) (within : k < length fs) where
+module _ (kept : List (Bor (List ℕ))) (fs : List (List ℕ)) (first_kept : map (λ f. f.now) kept ≡ take 20 fs) (k : ℕ) (few : k < 20) (within : k < length fs) where
   pub is_kept : k < length kept
-  is_kept = omega (arith, length-map kept (λ (f : Bor (List ℕ)). f.now), ap length first_twenty, length-take 20 fs)
+  is_kept = omega (arith, length-map kept (λ (f : Bor (List ℕ)). f.now), ap length first_kept, length-take 20 fs)
 
   pub field_is : (d : Bor (List ℕ)) → (slice_index_or kept k d).now ≡ slice_index_or fs k []
-  field_is d = sym (get_or-map (λ f. f.now) kept k d [] is_kept) ∙ (ap (λ xs. slice_index_or xs k []) first_twenty ∙ get_or-take 20 fs k [] few)
+  field_is d = sym (get_or-map (λ f. f.now) kept k d [] is_kept) ∙ (ap (λ xs. slice_index_or xs k []) first_kept ∙ get_or-take 20 fs k [] few)
 
 -- what is said of a reader in a field, at that field
 pub in_field : (text : List ℕ) (at : ℕ) (kept : List (List ℕ)) (state : State) (i start : ℕ) → state ≡ Field i start → IsBeforeByte text at kept state → IsInField text at kept i start
@@ -46,7 +46,7 @@ module _ (text : List ℕ) (at : ℕ) (kept : List (List ℕ)) (i start : ℕ) (
 
     kept_more : (now : List (List ℕ)) → now ≡ take 20 (kept ++ between start at text ∷ []) → now ≡ take 20 (f.before ++ between start at text ∷ [])
     kept_more now e =
-        e ∙ (ap (λ k. take 20 (k ++ between start at text ∷ [])) f.first_twenty ∙ take_front 20 f.before (between start at text ∷ []))
+        e ∙ (ap (λ k. take 20 (k ++ between start at text ∷ [])) f.first_kept ∙ take_front 20 f.before (between start at text ∷ []))
 
     -- a byte of the field
     pub on_other : slice_index_or text at 0 ≢ tab → slice_index_or text at 0 ≢ newline → IsInField text (at + 1) kept i start
@@ -61,7 +61,7 @@ module _ (text : List ℕ) (at : ℕ) (kept : List (List ℕ)) (i start : ℕ) (
               rw (take_more text at 0 inside, between_more text start at 0 f.begun inside)
               (parted_on tab (slice_index_or text at 0) (take at text) f.before (between start at text) no_tab f.cut);
           size = f.size;
-          first_twenty = f.first_twenty;
+          first_kept = f.first_kept;
         }
 
     -- a tab ends the field
@@ -76,7 +76,7 @@ module _ (text : List ℕ) (at : ℕ) (kept : List (List ℕ)) (i start : ℕ) (
           before = f.before ++ between start at text ∷ [];
           cut = rw (take_more text at 0 inside, is_tab, sub_self (at + 1)) (parted_at tab (take at text) [] f.before (between start at text) f.cut);
           size = one_more;
-          first_twenty = kept_more now e;
+          first_kept = kept_more now e;
         }
 
     -- a newline ends the line
@@ -86,5 +86,5 @@ module _ (text : List ℕ) (at : ℕ) (kept : List (List ℕ)) (i start : ℕ) (
         record {
           first = ap lines split ∙ first_line (take at text) (drop (at + 1) text) f.one_line;
           size = sym (ap length f.cut ∙ one_more);
-          first_twenty = kept_more now e ∙ ap (λ fs. take 20 fs) (sym f.cut);
+          first_kept = kept_more now e ∙ ap (λ fs. take 20 fs) (sym f.cut);
         }

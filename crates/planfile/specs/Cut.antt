@@ -5,7 +5,7 @@ use Rattle.planfile.specs.declared.reader.TheConstants.{MOST_FIELDS}
 use Rattle.planfile.specs.declared.reader.Reader.{Reader}
 use Rattle.planfile.specs.Text.{lines, fields}
 
--- the n fields from field k on are there, and are among the first twenty, which a line keeps
+-- the n fields from field k on are there, and are among the first MOST_FIELDS, which a line keeps
 abbrev pub Keeps : List (List ℕ) → ℕ → ℕ → Type 0
 Keeps fs k n = (0 < k) × (k + n ≤ MOST_FIELDS + 1) × (k + n ≤ length fs + 1)
 

@@ -31,7 +31,7 @@ abbrev pub RefusalReported : List ℕ → List ℕ → ℕ → List ℕ → Type
 RefusalReported text before n after =
     (b : Blame) × FileRead text (length before) (Err b) × Wrote before 0 (refusal_line b) n after
 
--- What is answered for a text, and memory before and after: memory of fewer than 512 bytes is refused and stays as it is, else the report stands
+-- What is answered for a text, and memory before and after: memory of fewer than REPORT_MEMORY bytes is refused and stays as it is, else the report stands
 -- at its start, or the line of the refusal.
 abbrev pub AnsweredText : List ℕ → List ℕ → Result ℕ Fault → List ℕ → Type 0
 AnsweredText text before (Ok n) after =

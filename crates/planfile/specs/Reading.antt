@@ -86,7 +86,7 @@ LinesRead text r =
     (((clock_blame text).number ≢ 0) × (r ≡ Err (at_line 1 (clock_blame text))))
     ⊎ ((clock_blame text ≡ nothing) × RowsRead (clock_of (first_fields text)) 2 [] (drop 1 (lines text)) r)
 
--- When a file is refused before its lines are read, in this order: the report has fewer than 512 bytes; the file has more than 4,096, or is not
+-- When a file is refused before its lines are read, in this order: memory has fewer than REPORT_MEMORY bytes; the file has more than LONGEST_FILE, or is not
 -- ended by a newline.
 abbrev pub file_checks : List ℕ → ℕ → List (Bool × Blame)
 file_checks text room = (nat_lt room REPORT_MEMORY, by_number 19) ∷ length_checks LONGEST_FILE text

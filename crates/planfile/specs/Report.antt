@@ -51,11 +51,11 @@ pub record Wrote (before : List ℕ) (at : ℕ) (text : List ℕ) (r : ℕ) (aft
   pub next : r ≡ at + length text
   pub memory : WrittenAt before at text after
 
--- memory has fewer than 512 bytes, which is refused by 19, and stays as it is
+-- memory has fewer than REPORT_MEMORY bytes, which is refused by 19, and stays as it is
 abbrev pub MemoryIsShort : List ℕ → Fault → List ℕ → Type 0
 MemoryIsShort before f after = (length before < REPORT_MEMORY) × (blame f ≡ by_number 19) × (after ≡ before)
 
--- What writing the line of a refusal answers, and memory after: memory of fewer than 512 bytes is refused and stays as it is, else the line
+-- What writing the line of a refusal answers, and memory after: memory of fewer than REPORT_MEMORY bytes is refused and stays as it is, else the line
 -- stands at its start.
 abbrev pub RefusalWritten : Blame → List ℕ → Result ℕ Fault → List ℕ → Type 0
 RefusalWritten b before (Ok n) after =

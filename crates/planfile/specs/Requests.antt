@@ -47,7 +47,7 @@ is_table Bound = false
 is_table Rows = false
 is_table Other = false
 
--- When a line is refused before its fields are looked at: it has more than 4,096 bytes, or is not ended by a newline.
+-- When a line is refused before its fields are looked at: it has more than LONGEST_LINE bytes, or is not ended by a newline.
 abbrev pub end_checks : List ℕ → List (Bool × Blame)
 end_checks = length_checks LONGEST_LINE
 
@@ -64,7 +64,7 @@ abbrev pub limit_checks : List (List ℕ) → ℕ → ℕ → List (Bool × Blam
 limit_checks fs k limit = (not (is_number (field k fs) && nat_le (number_in fs k) limit), by_field 16 k) ∷ []
 
 -- When a table line is refused behind its first word, in this order: there are not just two fields behind it; the number of the table is none, or
--- above 255; that of its places is none, or above 12.
+-- above the largest u8; that of its places is none, or above MOST_ROWS.
 abbrev pub table_checks : List (List ℕ) → List (Bool × Blame)
 table_checks fs = count_checks fs 3 ++ (limit_checks fs 2 255 ++ limit_checks fs 3 MOST_ROWS)
 

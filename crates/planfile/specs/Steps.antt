@@ -13,14 +13,14 @@ use Rattle.planfile.specs.Text.{newline, parted_by, lines, fields}
 abbrev pub kept_fields : Reader → List (List ℕ)
 kept_fields r = map (λ f. f.now) r.kept.items
 
--- a field was kept, if it is one of the first twenty; the text and the state are as they were
+-- a field was kept, if it is one of the first MOST_FIELDS; the text and the state are as they were
 pub record Kept (before : Reader) (field : List ℕ) (after : Reader) : Type 0 where
   pub text : after.text.now ≡ before.text.now
   pub state : after.state ≡ before.state
   pub fields : kept_fields after ≡ take MOST_FIELDS (kept_fields before ++ field ∷ [])
 
 -- Of the line that a text begins with, the bytes before `at` are taken. No newline is among them. They are cut into the fields before this index, of
--- which the first twenty are kept, and the one that began at this start.
+-- which the first MOST_FIELDS are kept, and the one that began at this start.
 pub record IsInField (text : List ℕ) (at : ℕ) (kept : List (List ℕ)) (index start : ℕ) : Type 0 where
   pub begun : start ≤ at
   pub low : index ≤ start
@@ -28,13 +28,13 @@ pub record IsInField (text : List ℕ) (at : ℕ) (kept : List (List ℕ)) (inde
   pub before : List (List ℕ)
   pub cut : fields (take at text) ≡ before ++ between start at text ∷ []
   pub size : length before ≡ index
-  pub first_twenty : kept ≡ take MOST_FIELDS before
+  pub first_kept : kept ≡ take MOST_FIELDS before
 
--- The first line of a text is ended by the newline at this place. It has so many fields, of which the first twenty are kept.
+-- The first line of a text is ended by the newline at this place. It has so many fields, of which the first MOST_FIELDS are kept.
 pub record IsBehindLine (text : List ℕ) (at : ℕ) (kept : List (List ℕ)) (count : ℕ) : Type 0 where
   pub first : lines text ≡ take at text ∷ lines (drop (at + 1) text)
   pub size : count ≡ length (fields (take at text))
-  pub first_twenty : kept ≡ take MOST_FIELDS (fields (take at text))
+  pub first_kept : kept ≡ take MOST_FIELDS (fields (take at text))
 
 -- the reader is in a field of the first line of a text
 abbrev pub IsBeforeByte : List ℕ → ℕ → List (List ℕ) → State → Type 0

@@ -1,4 +1,4 @@
-// What is wrong with a plan file, by layers: a field, a line, the file. Of a log it is a field or a line.
+//! What is wrong with a plan file, by layers: a field, a line, the file. Of a log it is a field or a line.
 ghost use Rattle.std.specs.Prelude.{◌≡◌};
 ghost use Rattle.table.specs.Account.{hold_late};
 ghost use Rattle.planfile.specs.Fault.{field_number, by_number, blame, line_blame};

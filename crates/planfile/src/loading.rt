@@ -1,4 +1,4 @@
-// Loading a plan file.
+//! Loading a plan file.
 ghost use Rattle.std.specs.Prelude.{◌≡◌, ◌+◌, ◌<◌, ◌≤◌, true, List, [], length, IfOk, Ok, Err, MatchResult};
 ghost use Rattle.analysis.specs.Ranks.{Claim};
 ghost use Rattle.table.specs.Agreement.{AgreesWith};
@@ -66,7 +66,8 @@ fn take_lines(file: &[u8], register: &mut Register<RowKind>) -> Result<Answers, 
 /// Reads a plan file, and writes its report at the start of the memory lent for it. The answer is the length of the report.
 ///
 /// The report has a line for each row, highest first: its number, its bound in ticks, the vector that gives it, its blocking in
-/// ticks. An `Err` is the first fault of the file, from the front, and memory is as it was then. What stands behind a report
+/// ticks. An `Err` is number 19 where memory is shorter than [`REPORT_MEMORY`], else
+/// the first fault of the file, from the front; memory is as it was then. What stands behind a report
 /// stays.
 #[tactic(auto, using(crate::proofs::Loads::by_file, crate::proofs::Loads::by_lines, crate::proofs::FileOrder::in_file_order, crate::proofs::OneAnswer::one_answer, crate::proofs::RoundTrip::round_trip))]
 pub fn load(file: &[u8], report: &mut [u8]) -> Result<usize, Fault>

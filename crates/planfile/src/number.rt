@@ -1,4 +1,4 @@
-// Numbers of a plan file: digits in base ten.
+//! Numbers of a plan file: digits in base ten.
 ghost use Rattle.std.specs.Prelude.{◌≡◌, ℕ, ◌^◌, ◌<◌, ◌≤◌, ◌⊎◌, true, false, IfOk, Ok, decimal, MatchOption};
 ghost use Rattle.std.specs.Char.{is_ascii_digit};
 ghost use Rattle.planfile.specs.Checks.{NumberRead};

@@ -1,4 +1,4 @@
-// Takes the bytes of a file in order, and cuts each line into its fields.
+//! Takes the bytes of a file in order, and cuts each line into its fields.
 use arrayvec::ArrayVec;
 use std::marker::Model;
 

@@ -1,4 +1,4 @@
-// The lines of a log of calls: from their bytes to what each asks.
+//! The lines of a log of calls: from their bytes to what each asks.
 ghost use Rattle.std.specs.Prelude.{◌≤◌, IfOk};
 ghost use Rattle.planfile.specs.Checks.{clock_of, number_in, Reads};
 ghost use Rattle.planfile.specs.Cut.{Keeps};
@@ -126,8 +126,8 @@ pub fn read_clock_line(text: &[u8]) -> Result<Factor, LineFault>
 }
 
 /// Reads a line of an evening, with its newline: what it asks of the table of this number, whose clock has this factor. What
-/// follows the newline is not looked at. An `Err` is the first check that applies: 18, 17, 15 or 16 as for a table line, or 1 to
-/// 3 for the kind of a row. Whether the table accepts the call is not looked at.
+/// follows the newline is not looked at. An `Err` is the first check that applies: 18, 17 for the first word, 15, 16, and
+/// behind `hold` those of a row line of a plan file up to 3, in the same order. Whether the table accepts the call is not looked at.
 pub fn read_request(text: &[u8], clock: Factor, table: u8) -> Result<Request, LineFault>
     ensures { RequestRead clock table text.now result }
 {

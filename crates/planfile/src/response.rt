@@ -1,4 +1,4 @@
-// What is written for the lines of a log.
+//! What is written for the lines of a log.
 ghost use Rattle.std.specs.Prelude.{◌≡◌};
 ghost use Rattle.planfile.specs.Responses.{reply_late};
 

@@ -1,4 +1,4 @@
-// Clock lines and row lines, from fields to a clock and to rows of a table.
+//! Clock lines and row lines, from fields to a clock and to rows of a table.
 ghost use Rattle.std.specs.Prelude.{◌≡◌, ◌<◌, ◌≤◌, List, length};
 ghost use Rattle.analysis.specs.Ranks.{Claim};
 ghost use Rattle.table.specs.Agreement.{AgreesWith};

@@ -1,4 +1,4 @@
-// The words of plan files and of logs.
+//! The words of plan files and of logs.
 ghost use Rattle.std.specs.Prelude.{◌≡◌};
 ghost use Rattle.planfile.specs.Text.{word_of};
 ghost use Rattle.planfile.specs.Requests.{verb_of};

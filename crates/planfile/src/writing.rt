@@ -1,4 +1,4 @@
-// The texts that are written into lent memory.
+//! The texts that are written into lent memory.
 ghost use Rattle.std.specs.Prelude.{◌≡◌, ◌≤◌, length};
 ghost use Rattle.arrayvec.specs.ArrayString.{array_string_len};
 ghost use Rattle.planfile.specs.Fault.{blame};

@@ -1,4 +1,4 @@
-// Logs at their limits and bad ones, a worked example of each public call for logs, run on the code, and a write that fails.
+//! Logs at their limits and bad ones, a worked example of each public call for logs, run on the code, and a write that fails.
 use super::{Output, answer_files};
 use analysis::Answer;
 use call_log::replay;

@@ -1,4 +1,4 @@
-// A table that only its own calls have changed, with no hold in hand.
+//! A table that only its own calls have changed, with no hold in hand.
 ghost use Rattle.std.specs.Prelude.{◌≡◌, min, [], length, IsTrue, MatchResult, OnErr};
 ghost use Rattle.analysis.specs.declared.TheConstants.{MOST_ROWS};
 ghost use Rattle.analysis.specs.Candidates.{claim_with};

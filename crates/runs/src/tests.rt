@@ -1,4 +1,4 @@
-// A worked example of each public call, run on the code.
+//! A worked example of each public call, run on the code.
 use super::*;
 use analysis::{Row, Task};
 use demand::Every;

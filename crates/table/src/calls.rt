@@ -1,4 +1,4 @@
-// The calls of a table.
+//! The calls of a table.
 ghost use Rattle.std.specs.Prelude.{◌≡◌, min, [], length, All, Some, None, MatchResult};
 ghost use Rattle.demand.specs.Refusals.{first};
 ghost use Rattle.analysis.specs.Candidates.{claim_with};

@@ -1,4 +1,4 @@
-// A hold.
+//! A hold.
 ghost use Rattle.std.specs.Prelude.{◌≡◌};
 
 /// A row that a table has taken and that is neither kept nor released yet. Only [`Table::hold`](crate::Table::hold) and

@@ -1,4 +1,4 @@
-// Looking for a place, a row, an answer.
+//! Looking for a place, a row, an answer.
 ghost use Rattle.std.specs.Prelude.{◌≡◌, true, length, filter, is_none, take};
 ghost use Rattle.analysis.specs.Candidates.{claims};
 ghost use Rattle.analysis.specs.Judge.{Judged, judge_number, judge_late};

@@ -1,4 +1,4 @@
-// Why a call is refused.
+//! Why a call is refused.
 ghost use Rattle.std.specs.Prelude.{◌≡◌};
 ghost use Rattle.analysis.specs.Judge.{judge_number, judge_late};
 ghost use Rattle.table.specs.Account.{bound_number, hold_late, hold_number, spend_number, withdraw_number};
@@ -29,8 +29,8 @@ pub enum HoldRefusal {
     Late(u32),
 }
 
-/// Why a hold is not spent. The hold comes back, and has to be spent still; so this can't be let go either, and is no `Error`,
-/// which only a type can be whose values may be let go.
+/// Why a hold is not spent. The hold comes back inside, and has to be spent still. `Error` is not implemented, since an error
+/// may be let go.
 #[derive(PartialEq, Eq, Debug)]
 pub enum SpendRefusal {
     /// Check 12: the hold is another table's, or its row is not held here.

@@ -1,4 +1,4 @@
-// What stands at a place.
+//! What stands at a place.
 ghost use Rattle.std.specs.Prelude.{◌≡◌};
 ghost use Rattle.table.specs.Places.{names};
 

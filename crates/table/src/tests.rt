@@ -1,4 +1,4 @@
-// The limits of a row and of a table, and a worked example of each public call, run on the code.
+//! The limits of a row and of a table, and a worked example of each public call, run on the code.
 use super::*;
 use analysis::{JudgeRefusal, Row};
 use demand::Every;

@@ -1,4 +1,4 @@
-// What a caller may ask of a table.
+//! What a caller may ask of a table.
 ghost use Rattle.std.specs.Prelude.{◌≡◌, ◌+◌, length, IfOk, Ok};
 ghost use Rattle.analysis.specs.declared.answers.Answers.{Answers as Listed};
 ghost use Rattle.analysis.specs.Judge.{InTime, RowsAnswered, answers_of};

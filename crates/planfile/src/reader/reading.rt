@@ -1,4 +1,4 @@
-// What a reader and a line are asked.
+//! What a reader and a line are asked.
 ghost use Rattle.std.specs.Prelude.{◌≡◌, ◌<◌, length, slice_index};
 ghost use Rattle.planfile.specs.Text.{field};
 ghost use Rattle.planfile.specs.Cut.{Keeps};
@@ -18,7 +18,7 @@ impl<'a> Reader<'a> {
         }
     }
 
-    // Keeps a field, if it is one of the first twenty.
+    // Keeps a field, if it is one of the first `MOST_FIELDS`.
     fn keep(&mut self, field: &'a [u8])
         ensures { Kept self.old field.now self.new }
     {
