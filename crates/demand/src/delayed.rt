@@ -20,7 +20,8 @@ pub struct Delayed<K> {
 impl<K: Kind + Drop> Delayed<K> {
     /// The kind, each job late by up to `delay`. Refused with [`KindRefusal::Delay`] where that is not below its spacing.
     pub fn new(kind: K, delay: u32) -> Result<Delayed<K>, KindRefusal>
-        ensures refusal { answer_number result ≡ first (delayed_checks delay (K.Kind.demand kind)) }
+        ensures refusal { answer_number result
+            ≡ first (delayed_checks delay (K.Kind.demand kind)) }
         ensures kind { IfOk result (λ k. k.kind ≡ kind) }
         ensures delay { IfOk result (λ k. k.delay ≡ delay) }
     {

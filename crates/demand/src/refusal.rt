@@ -38,7 +38,7 @@ impl fmt::Display for KindRefusal {
             ),
             KindRefusal::Period => write!(
                 f,
-                "the spacing is not 1 to {LONGEST}, or one job is heavy of not {FEWEST_AMONG} to {MOST_AMONG}"
+                "the spacing is not 1 to {LONGEST}, or the heavy job is not one of {FEWEST_AMONG} to {MOST_AMONG}"
             ),
             KindRefusal::Delay => write!(f, "the delay is not below the spacing"),
             KindRefusal::Speed => write!(

@@ -161,7 +161,7 @@ fn refusals_in_words(rt: HostRuntime) -> Result<(), Fail> {
         ),
         (
             KindRefusal::Period,
-            "check 2: the spacing is not 1 to 1000000, or one job is heavy of not 2 to 64",
+            "check 2: the spacing is not 1 to 1000000, or the heavy job is not one of 2 to 64",
         ),
         (
             KindRefusal::Delay,

@@ -2,6 +2,7 @@
 -- How to read it: c is the length of the job, as a value of the code has it; `once` is the meaning; `once_lawful` has a line for each law.
 use Rattle.std.specs.Prelude.{ℕ, if◌then◌else◌, ◌==◌}
 use Rattle.std.proofs.Common.{arith}
+use Rattle.demand.specs.declared.TheConstants.{LONGEST}
 use Rattle.demand.specs.Demand.{Demand, Lawful}
 use Rattle.demand.specs.Basic.{length_of_job}
 use Rattle.own_kind.specs.declared.once.Once.{Once}
@@ -9,7 +10,7 @@ use Rattle.own_kind.specs.declared.once.Once.{Once}
 -- a window of 1 or more has the one job, and an empty window has none
 abbrev pub once : ℕ → Demand
 once c = record {
-  spacing = 1_000_000;
+  spacing = LONGEST;
   own = length_of_job c;
   least = length_of_job c;
   work = λ w. if w == 0 then 0 else length_of_job c;

@@ -1,10 +1,7 @@
 //! The kind whose job comes once.
 ghost use Rattle.own_kind.specs.Once.{once_demand, once_lawful};
 
-use demand::Kind;
-
-// The longest job and the longest spacing that a kind has in a table.
-const LONGEST: u32 = 1_000_000;
+use demand::{Kind, LONGEST};
 
 // One job in all, as the test of a contactor when the cabinet starts. A length out of range counts as the nearest in it.
 #[derive(Clone, Copy)]

@@ -1,5 +1,5 @@
 -- A row line that is refused, and one whose row is taken in. Assumes nothing.
-use Rattle.std.proofs.Common.{◌≡◌, ℕ, ◌-◌, Bool, true, if◌then◌else◌, ◌≢◌, List, [], ◌∷◌, ◌++◌, length, Ok, sym, ap, ◌∙◌, subst, arith}
+use Rattle.std.proofs.Common.{◌≡◌, ℕ, ◌-◌, Bool, true, if◌then◌else◌, not, ◌≢◌, List, [], ◌∷◌, ◌++◌, length, Ok, sym, ap, ◌∙◌, subst, arith}
 use Rattle.std.proofs.lemmas.Bool.Decides.{nat_tests}
 use Rattle.analysis.specs.declared.Row.{Row}
 use Rattle.analysis.specs.declared.Task.{Task}
@@ -96,7 +96,7 @@ module _ (fs : List (List ℕ)) (row : Row) (delay : ℕ) (jobs : Jobs) (read : 
 -- a row that was held and kept is one row more, and no hold is left
 kept : (rows : List Claim) (c : Claim) → with_kept (with_row (account_with rows) c) (hold_on (account_with rows) c) ≡ account_with (c ∷ rows)
 kept rows c =
-    ap (λ b. record { number = 0; room = 12; rows = c ∷ rows; holds = if b then [] else (record { table = 0; row = number_of c } ∷ []) }) (its_own (number_of c))
+    ap (λ b. record { number = 0; room = 12; rows = c ∷ rows; holds = if not b then record { table = 0; row = number_of c } ∷ [] else [] }) (its_own (number_of c))
   where
     its_own : (n : ℕ) → bears 0 n (record { table = 0; row = n }) ≡ true
     its_own n = grind (arith, nat_tests)

@@ -33,7 +33,7 @@ pub struct Desk<'a, K: Kind> {
 }
 
 /// What a list of calls came to.
-#[derive(Drop)]
+#[derive(PartialEq, Eq, Debug, Drop)]
 pub struct Ran {
     /// What each call answered, in order.
     pub replies: Vec<Reply>,

@@ -176,7 +176,8 @@ impl<'a, K: Kind + Drop> Register<'a, K> {
 
     // The bound and the vector of a row.
     pub(crate) fn bound(&self, number: u32) -> Result<(u32, u32), BoundRefusal>
-        ensures { Continues K.demand (bounding number result) (table_of self.now) (table_of self.now) }
+        ensures { Continues K.demand (bounding number result)
+            (table_of self.now) (table_of self.now) }
     {
         self.table.bound(number)
     }

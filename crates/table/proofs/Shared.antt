@@ -1,8 +1,8 @@
 -- Rows in another order, checks of which none applies, rows that are in time, and places. Assumes nothing.
-use Rattle.std.proofs.Common.{◌≡◌, ℕ, zero, suc, ◌<◌, ◌≤◌, Bool, true, false, cond, ◌||◌, eqb, ltb, ◌≢◌, List, [], ◌∷◌, length, get_or, Some, None, Option, sym, refl, ap, ◌∙◌, subst, arith}
+use Rattle.std.proofs.Common.{◌≡◌, ℕ, zero, suc, ◌<◌, ◌≤◌, Bool, true, false, cond, eqb, ltb, ◌≢◌, List, [], ◌∷◌, length, get_or, Some, None, Option, sym, refl, ap, ◌∙◌, subst, arith}
 use Rattle.std.specs.Prelude.{All, Contains, IsPermutation}
-use Rattle.std.proofs.lemmas.List.Sorted.{Contains-permutation, IsPermutation-cons, IsPermutation-sym, IsPermutation-trans, length_permutation}
-use Rattle.std.specs.List.{filter, list_any}
+use Rattle.std.proofs.lemmas.List.Sorted.{Contains-permutation, list_any-IsPermutation, IsPermutation-cons, IsPermutation-sym, IsPermutation-trans, length_permutation}
+use Rattle.std.specs.List.{filter}
 use Rattle.std.proofs.lemmas.Bool.Decides.{nat_tests}
 use Rattle.std.proofs.lemmas.Bool.{leb-false, ltb-false, or_parts}
 use Rattle.demand.specs.Demand.{Demand}
@@ -38,16 +38,6 @@ permuted_next a {xs = xs} {ys = ys} = IsPermutation-cons a xs ys
 pub contains_permuted : {A : Type 0} (x : A) {xs ys : List A} → IsPermutation xs ys → Contains xs x → Contains ys x
 contains_permuted x {xs = xs} {ys = ys} = Contains-permutation xs ys x
 
-or_swap : (x y z : Bool) → (x || (y || z)) ≡ (y || (x || z))
-or_swap x y z = grind arith
-
--- whether one of these passes a test does not hang on their order
-any_reordered : {A : Type 0} (test : A → Bool) {xs ys : List A} → Reordered xs ys → list_any test xs ≡ list_any test ys
-any_reordered test same = refl
-any_reordered test (next {a = a} r) = ap (λ b. test a || b) (any_reordered test r)
-any_reordered test (swapped {a = a} {b = b} {xs = xs}) = or_swap (test a) (test b) (list_any test xs)
-any_reordered test (through r q) = any_reordered test r ∙ any_reordered test q
-
 -- those that pass a test are the same in another order
 filter_reordered : {A : Type 0} (test : A → Bool) {xs ys : List A} → Reordered xs ys → Reordered (filter test xs) (filter test ys)
 filter_reordered test same = same
@@ -70,10 +60,10 @@ filter_permuted test p = reordered_is_permutation (filter_reordered test (permut
 
 -- the order of the rows does not matter
 pub number_permuted : (n : ℕ) {xs ys : List Claim} → IsPermutation xs ys → has_number n xs ≡ has_number n ys
-number_permuted n p = any_reordered (λ c. eqb (number_of c) n) (permutation_is_reordered p)
+number_permuted n {xs = xs} {ys = ys} = list_any-IsPermutation (λ c. eqb (number_of c) n) xs ys
 
 pub priority_permuted : (q : ℕ) {xs ys : List Claim} → IsPermutation xs ys → has_priority q xs ≡ has_priority q ys
-priority_permuted q p = any_reordered (λ c. eqb c.row.priority q) (permutation_is_reordered p)
+priority_permuted q {xs = xs} {ys = ys} = list_any-IsPermutation (λ c. eqb c.row.priority q) xs ys
 
 pub numbers_permuted : {xs ys : List Claim} → IsPermutation xs ys → DistinctNumbers xs → DistinctNumbers ys
 numbers_permuted {xs = xs} {ys = ys} p = pairs_permuted (λ c d. number_of c ≢ number_of d) (λ c d ne e. ne (sym e)) xs ys p

@@ -44,5 +44,5 @@ returns c =
     let jobs = rw words.1 at c.in_ok-jobs.ensures in
     let kind = c.in_ok-kind.ensures in (
       by_delay fs words.0 row.0 0 jobs.0 (kind.refusal ∙ delay_is fs c.in_ok-row.row c.in_ok-row.delay c.in_ok-jobs.jobs row.1 jobs.1),
-      task_is fs c.in_ok-row.row c.in_ok-row.delay c.in_ok-jobs.jobs row.1 jobs.1 c.args.clock c.in_ok-kind.kind kind.fields.0 kind.fields.1,
+      task_is fs c.in_ok-row.row c.in_ok-row.delay c.in_ok-jobs.jobs row.1 jobs.1 c.args.clock c.in_ok-kind.kind kind.kind kind.delay,
     )
