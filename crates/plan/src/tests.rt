@@ -432,6 +432,54 @@ fn faults(rt: HostRuntime) {
     }
 }
 
+// What each fault says in words.
+#[test]
+fn faults_in_words(rt: HostRuntime) -> Result<(), Fail> {
+    let heap = rt.alloc();
+    let texts = [
+        (
+            LineFault::Word(1),
+            "line 4: check 17: field 1 is not a word that is due there",
+        ),
+        (
+            LineFault::Length,
+            "line 4: check 18: the line has more than 4096 bytes, or no newline at its end",
+        ),
+        (
+            LineFault::Count,
+            "line 4: check 15: there are too few fields, or too many",
+        ),
+        (
+            LineFault::Number(6),
+            "line 4: check 16: field 6 is not a number that can stand there",
+        ),
+        (
+            LineFault::from(KindRefusal::Delay),
+            "line 4: check 3: the delay is not below the spacing",
+        ),
+        (
+            LineFault::from(HoldRefusal::Late(3)),
+            "line 4: check 11: row 3 would be late",
+        ),
+    ];
+    for (fault, text) in texts {
+        let told = Fault::Line(4, fault).to_string(heap)?;
+        assert_eq!(rt; told.as_str(), text);
+    }
+    let memory = Fault::ReportMemory.to_string(heap)?;
+    let file = Fault::File.to_string(heap)?;
+    let field = FieldFault::NotNumber.to_string(heap)?;
+    assert_eq!(rt;
+        [memory.as_str(), file.as_str(), field.as_str()],
+        [
+            "check 19: the memory for the report has fewer than 512 bytes",
+            "check 18: the file has more than 4096 bytes, or no newline at its end",
+            "check 16: the field is not a number up to 4294967295",
+        ]
+    );
+    Ok(())
+}
+
 // The answer is `true` always; what is proved is the contract.
 #[test]
 fn worked_figures(rt: HostRuntime) {

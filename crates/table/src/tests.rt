@@ -209,12 +209,21 @@ fn refusals_in_words(rt: HostRuntime) -> Result<(), Fail> {
     let refusal = HoldRefusal::Number;
     let words = "check 5: the number is not 1 to 255, or a row has it";
     assert!(rt; shown(heap, &refusal, words)?);
+    let refusal = HoldRefusal::Priority;
+    let words = "check 6: the priority is not 1 to 255, or a row has it";
+    assert!(rt; shown(heap, &refusal, words)?);
     let refusal = HoldRefusal::Suspension;
     let words =
         "check 7: the suspension is above 1000000 ticks, or there are more than 63, or just one of the two is 0";
     assert!(rt; shown(heap, &refusal, words)?);
     let refusal = HoldRefusal::Deadline;
     let words = "check 8: the deadline is 0 or above the spacing";
+    assert!(rt; shown(heap, &refusal, words)?);
+    let refusal = HoldRefusal::Section;
+    let words = "check 9: a section is longer than the longest job";
+    assert!(rt; shown(heap, &refusal, words)?);
+    let refusal = HoldRefusal::NoPlace;
+    let words = "check 10: there is no place for one more row";
     assert!(rt; shown(heap, &refusal, words)?);
     let refusal = HoldRefusal::Late(3);
     let words = "check 11: row 3 would be late";
