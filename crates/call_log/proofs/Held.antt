@@ -1,5 +1,5 @@
 -- Whether a row is held, by the account. Assumes nothing.
-use Rattle.std.proofs.Common.{◌≡◌, ℕ, true, false, List, eqb, subst, sym, refl}
+use Rattle.std.proofs.Common.{◌≡◌, ℕ, true, false, List, ◌==◌, subst, sym, refl}
 use Rattle.std.proofs.lemmas.List.Folds.{Any-from_list_any}
 use Rattle.std.proofs.lemmas.Bool.{eqb-true, false_from_ne_true}
 use Rattle.analysis.specs.Ranks.{Claim}
@@ -11,7 +11,7 @@ use Rattle.table.specs.Agreement.{OwnHolds, Sound, StateOf}
 -- a hold is on a row that is there
 held_row : (table n : ℕ) (cs : List Claim) (hs : List Bears) → OwnHolds table cs hs → has_hold_on n hs ≡ true → has_number n cs ≡ true
 held_row table n cs hs own e =
-    let found = Any-from_list_any (λ (h : Bears). eqb h.row n) hs e in
+    let found = Any-from_list_any (λ (h : Bears). h.row == n) hs e in
     let there = subst (λ (h : Bears). has_number h.row cs ≡ true) found.3 (own found.0 found.1 found.2).1 in
     subst (λ (m : ℕ). has_number m cs ≡ true) (eqb-true found.1.row n found.4) there
 

@@ -1,5 +1,5 @@
 -- What the account answers to calls with the rows of the worked garage, computed. Assumes nothing.
-use Rattle.std.proofs.Common.{◌≡◌, ℕ, T, leb, [], ◌∷◌, Ok, refl, arith}
+use Rattle.std.proofs.Common.{◌≡◌, ℕ, T, nat_le, [], ◌∷◌, Ok, refl, arith}
 use Rattle.analysis.proofs.Tested.{late_by}
 use Rattle.demand.specs.Refusals.{first}
 use Rattle.table.specs.declared.refusals.HoldRefusal.TheVariants.{Late}
@@ -9,7 +9,7 @@ use Rattle.planfile.specs.Reading.{account_with}
 use Rattle.planfile.proofs.GarageRows.{row_1, row_2, row_3, three, two_rows, above_car, three_rows}
 
 -- the car is accepted where the meters have a deadline of 9 or more, and it has one of 14 or more
-pub car_accepted : (m c : ℕ) → T (leb 9 m) → T (leb 14 c) → first (hold_checks (account_with (row_2 ∷ row_1 m ∷ [])) (row_3 c)) ≡ 0 → Accepted (account_with (row_2 ∷ row_1 m ∷ [])) (row_3 c) car_hold
+pub car_accepted : (m c : ℕ) → T (nat_le 9 m) → T (nat_le 14 c) → first (hold_checks (account_with (row_2 ∷ row_1 m ∷ [])) (row_3 c)) ≡ 0 → Accepted (account_with (row_2 ∷ row_1 m ∷ [])) (row_3 c) car_hold
 car_accepted m c h i pass =
     record { passes = pass; in_time = record { R = garage_bounds; V = garage_vectors; bounds = three_rows m c h i }; table = refl; row = refl }
 

@@ -1,5 +1,5 @@
 -- How the files of the worked garage are read, computed. Assumes nothing.
-use Rattle.std.proofs.Common.{◌≡◌, ℕ, T, leb, List, [], ◌∷◌, slice_index_or, Ok, Err, Result, refl, inl, inr}
+use Rattle.std.proofs.Common.{◌≡◌, ℕ, T, nat_le, List, [], ◌∷◌, slice_index_or, Ok, Err, Result, refl, inl, inr}
 use Rattle.analysis.specs.Ranks.{Claim}
 use Rattle.demand.specs.Refusals.{first}
 use Rattle.table.specs.declared.hold.Hold.{Hold as Token}
@@ -42,12 +42,12 @@ row_taken : (rows : List Claim) (fs : List (List ℕ)) (c : Claim) (token : Toke
 row_taken rows fs c token pass is accepted = record { passes = pass; token = token; accepted = rw is accepted }
 
 -- the card reader is taken behind the meters
-reader_taken : (m : ℕ) → T (leb 5 m) → RowTaken even_clock (row_1 m ∷ []) reader
+reader_taken : (m : ℕ) → T (nat_le 5 m) → RowTaken even_clock (row_1 m ∷ []) reader
 reader_taken m h =
     row_taken (row_1 m ∷ []) reader row_2 (record { table = 0; row = 2 }) refl refl
     (record { passes = refl; in_time = record { R = λ _. 5; V = λ _. 0; bounds = two_rows m h }; table = refl; row = refl })
 
-module _ (text : List ℕ) (m c : ℕ) (it : Gives text m c) (h : T (leb 5 m)) where
+module _ (text : List ℕ) (m c : ℕ) (it : Gives text m c) (h : T (nat_le 5 m)) where
   meters_taken : RowTaken even_clock [] (fields (line_at text 0))
   meters_taken =
       row_taken [] (fields (line_at text 0)) (row_1 m) (record { table = 0; row = 1 }) it.meters_pass it.meters

@@ -1,5 +1,5 @@
 -- The rows of the worked garage, with any deadlines, and their bounds, computed. Assumes nothing.
-use Rattle.std.proofs.Common.{ℕ, zero, suc, T, leb, [], ◌∷◌, arith}
+use Rattle.std.proofs.Common.{ℕ, zero, suc, T, nat_le, [], ◌∷◌, arith}
 use Rattle.analysis.specs.Plans.{System, Bounds}
 use Rattle.analysis.specs.Ranks.{Claim, system_of}
 use Rattle.analysis.proofs.Tested.{bound_by}
@@ -28,22 +28,22 @@ two m = system_of (row_2 ∷ row_1 m ∷ [])
 abbrev pub three : ℕ → ℕ → System
 three m c = system_of (row_3 c ∷ row_2 ∷ row_1 m ∷ [])
 
-pub one_row : (m : ℕ) → T (leb 5 m) → Bounds (one m) 1 (λ _. 5) (λ _. 0)
+pub one_row : (m : ℕ) → T (nat_le 5 m) → Bounds (one m) 1 (λ _. 5) (λ _. 0)
 one_row m h zero l = bound_by (one m) (λ _. 5) 0 5 0 tt h tt tt tt tt
 one_row m h (suc k) l = absurd (omega arith)
 
-pub two_rows : (m : ℕ) → T (leb 5 m) → Bounds (two m) 2 (λ _. 5) (λ _. 0)
+pub two_rows : (m : ℕ) → T (nat_le 5 m) → Bounds (two m) 2 (λ _. 5) (λ _. 0)
 two_rows m h zero l = bound_by (two m) (λ _. 5) 0 5 0 tt h tt tt tt tt
 two_rows m h (suc zero) l = bound_by (two m) (λ _. 5) 1 5 0 tt tt tt tt tt tt
 two_rows m h (suc (suc k)) l = absurd (omega arith)
 
 -- the meters and the card reader, with the car below them
-pub above_car : (m c : ℕ) → T (leb 9 m) → Bounds (three m c) 2 garage_bounds garage_vectors
+pub above_car : (m c : ℕ) → T (nat_le 9 m) → Bounds (three m c) 2 garage_bounds garage_vectors
 above_car m c h zero l = bound_by (three m c) garage_bounds 0 9 0 tt h tt tt tt tt
 above_car m c h (suc zero) l = bound_by (three m c) garage_bounds 1 9 0 tt tt tt tt tt tt
 above_car m c h (suc (suc k)) l = absurd (omega arith)
 
-pub three_rows : (m c : ℕ) → T (leb 9 m) → T (leb 14 c) → Bounds (three m c) 3 garage_bounds garage_vectors
+pub three_rows : (m c : ℕ) → T (nat_le 9 m) → T (nat_le 14 c) → Bounds (three m c) 3 garage_bounds garage_vectors
 three_rows m c h i zero l = above_car m c h 0 (omega arith)
 three_rows m c h i (suc zero) l = above_car m c h 1 (omega arith)
 three_rows m c h i (suc (suc zero)) l = bound_by (three m c) garage_bounds 2 14 2 tt i tt tt tt tt

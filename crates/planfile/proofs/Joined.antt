@@ -1,5 +1,5 @@
 -- Texts that are made of parts, each before, between or behind what parts them. Assumes nothing.
-use Rattle.std.proofs.Common.{◌≡◌, ℕ, ◌+◌, ◌-◌, ◌*◌, ◌≤◌, true, false, eqb, List, [], ◌∷◌, ◌++◌, length, take, sym, refl, ap, ◌∙◌, arith}
+use Rattle.std.proofs.Common.{◌≡◌, ℕ, ◌+◌, ◌-◌, ◌*◌, ◌≤◌, true, false, ◌==◌, List, [], ◌∷◌, ◌++◌, length, take, sym, refl, ap, ◌∙◌, arith}
 use Rattle.std.proofs.lemmas.List.{append-nil, append_assoc, length-append, length_push, take_at}
 use Rattle.std.proofs.lemmas.Bool.{eq-eqb}
 use Rattle.std.specs.List.{AllByRecursion, flat_map}
@@ -12,7 +12,7 @@ use Rattle.planfile.specs.Text.{tab, newline, parted_by, lines, fields, ends_wit
 
 -- no byte is this one
 abbrev pub Lacks : ℕ → List ℕ → Type 0
-Lacks separator = AllByRecursion (λ b. eqb b separator ≡ false)
+Lacks separator = AllByRecursion (λ b. (b == separator) ≡ false)
 
 pub lacks_append : (separator : ℕ) (p q : List ℕ) → Lacks separator p → Lacks separator q → Lacks separator (p ++ q)
 lacks_append separator [] q h k = k
@@ -20,12 +20,12 @@ lacks_append separator (b ∷ p) q h k = (h.0, lacks_append separator p q h.1 k)
 
 -- a text with nothing that parts it is one part
 parted_end : (separator : ℕ) (p : List ℕ) → Lacks separator p → parted_by separator p ≡ p ∷ []
-parted_end separator p h = slice_split_none (λ b. eqb b separator) p (All-from_recursion (λ b. eqb b separator ≡ false) p h)
+parted_end separator p h = slice_split_none (λ b. b == separator) p (All-from_recursion (λ b. (b == separator) ≡ false) p h)
 
 -- the first part, and those behind it
 parted_front : (separator : ℕ) (p rest : List ℕ) → Lacks separator p → parted_by separator (p ++ separator ∷ rest) ≡ p ∷ parted_by separator rest
 parted_front separator p rest h =
-    slice_split_at (λ b. eqb b separator) p separator rest (All-from_recursion (λ b. eqb b separator ≡ false) p h) (eq-eqb separator separator refl)
+    slice_split_at (λ b. b == separator) p separator rest (All-from_recursion (λ b. (b == separator) ≡ false) p h) (eq-eqb separator separator refl)
 
 -- fields, each behind a tab
 abbrev pub tabbed : List (List ℕ) → List ℕ

@@ -1,5 +1,5 @@
 -- Numbers that are read, and numbers that are written. Assumes nothing.
-use Rattle.std.proofs.Common.{◌≡◌, ℕ, suc, ◌+◌, ◌-◌, ◌*◌, ◌^◌, ◌<◌, ◌≤◌, Bool, true, false, not, ltb, leb, ◌⊎◌, Option, Some, None, List, [], ◌∷◌, ◌++◌, map, length, slice_index_or, take, drop, Bor, IfOk, Ok, Err, decimal, Result, sym, refl, ap, ◌∙◌, subst, inl, inr, arith, rules, MatchOption}
+use Rattle.std.proofs.Common.{◌≡◌, ℕ, suc, ◌+◌, ◌-◌, ◌*◌, ◌^◌, ◌<◌, ◌≤◌, Bool, true, false, not, nat_lt, nat_le, ◌⊎◌, Option, Some, None, List, [], ◌∷◌, ◌++◌, map, length, slice_index_or, take, drop, Bor, IfOk, Ok, Err, decimal, Result, sym, refl, ap, ◌∙◌, subst, inl, inr, arith, rules, MatchOption}
 use Rattle.std.specs.Char.{is_ascii_digit}
 use Rattle.std.specs.Str.{all_ascii_digits}
 use Rattle.std.proofs.lemmas.List.Sums.{fold-append}
@@ -91,15 +91,15 @@ empty_read f e = not_read f (and_left _ _ (le-ltb 0 (length f) (omega arith)))
 
 -- where a field has a byte, what pushing its bytes answers is what reading answers
 pub pushed_read : (f : List ℕ) (o : Option ℕ) (r : Result ℕ FieldFault) → 0 < length f → DigitsPushed 0 f o → r ≡ ok_or o NotNumber → NumberRead f r
-pushed_read f None r some (inl other) e = rw e (not_read f (and_right (ltb 0 (length f)) _ (and_left _ _ other)))
+pushed_read f None r some (inl other) e = rw e (not_read f (and_right (nat_lt 0 (length f)) _ (and_left _ _ other)))
 pushed_read f None r some (inr large) e =
-    rw e (not_read f (and_right (ltb 0 (length f)) _ (and_right (all_ascii_digits f) _ (lt-leb _ _ (omega arith)))))
+    rw e (not_read f (and_right (nat_lt 0 (length f)) _ (and_right (all_ascii_digits f) _ (lt-leb _ _ (omega arith)))))
 pushed_read f (Some m) r some (digits, is, fits) e = rw e (rw (number_from f some digits (omega arith)) refl, is)
 
 number_parts : (f : List ℕ) → is_number f ≡ true → (0 < length f) × (all_ascii_digits f ≡ true) × (value f ≤ 4_294_967_295)
 number_parts f e =
-    let p = and_parts (ltb 0 (length f)) _ e in
-    let q = and_parts (all_ascii_digits f) (leb (value f) 4_294_967_295) p.1 in
+    let p = and_parts (nat_lt 0 (length f)) _ e in
+    let q = and_parts (all_ascii_digits f) (nat_le (value f) 4_294_967_295) p.1 in
     (ltb-true 0 (length f) p.0, q.0, leb-true _ _ q.1)
 
 -- a number that is written has a digit

@@ -1,5 +1,5 @@
 -- The parts of a text, as the text goes on.
-use Rattle.std.proofs.Common.{◌≡◌, ℕ, ◌-◌, ◌<◌, ◌≤◌, true, false, eqb, ◌≢◌, List, [], ◌∷◌, ◌++◌, length, take, sym, refl, ap, ◌∙◌, inl, inr, append_assoc, not-suc-le-zero, sub-one, arith, length-append}
+use Rattle.std.proofs.Common.{◌≡◌, ℕ, ◌-◌, ◌<◌, ◌≤◌, true, false, ◌==◌, ◌≢◌, List, [], ◌∷◌, ◌++◌, length, take, sym, refl, ap, ◌∙◌, inl, inr, append_assoc, not-suc-le-zero, sub-one, arith, length-append}
 use Rattle.std.proofs.lemmas.List.{append-nil, same_from_push, length-take}
 use Rattle.std.proofs.lemmas.Bool.{cases_Bool, eq-eqb, ne_eqb}
 use Rattle.std.specs.List.{onto_first}
@@ -26,7 +26,7 @@ front_none (q ∷ qs) h = refl
 
 -- there is a part at least
 pub some_part : (sep : ℕ) (xs : List ℕ) → 0 < length (parted_by sep xs)
-some_part sep xs = omega (arith, length-slice_split (λ b. eqb b sep) xs)
+some_part sep xs = omega (arith, length-slice_split (λ b. b == sep) xs)
 
 -- a text has a last part, and more text goes on with that
 record Goes_on (sep : ℕ) (xs : List ℕ) : Type 0 where
@@ -36,7 +36,7 @@ record Goes_on (sep : ℕ) (xs : List ℕ) : Type 0 where
   more : (ys : List ℕ) → parted_by sep (xs ++ ys) ≡ done ++ onto_front last (parted_by sep ys)
 
 -- a byte in front that does not part
-goes_on_other : (sep b : ℕ) (xs : List ℕ) → eqb b sep ≡ false → (done : List (List ℕ)) (last : List ℕ) → parted_by sep xs ≡ done ++ last ∷ []
+goes_on_other : (sep b : ℕ) (xs : List ℕ) → (b == sep) ≡ false → (done : List (List ℕ)) (last : List ℕ) → parted_by sep xs ≡ done ++ last ∷ []
     → ((ys : List ℕ) → parted_by sep (xs ++ ys) ≡ done ++ onto_front last (parted_by sep ys)) → Goes_on sep (b ∷ xs)
 goes_on_other sep b xs e [] last cut more =
     record { done = []; last = b ∷ last; cut = rw (e, cut); more = λ ys. rw (e, more ys) (front_first b last (parted_by sep ys)) }
@@ -49,7 +49,7 @@ goes_on sep [] =
     record { done = []; last = []; cut = refl; more = λ ys. sym (front_none (parted_by sep ys) (some_part sep ys)) }
 goes_on sep (b ∷ xs) =
     let g = goes_on sep xs in
-    elim (cases_Bool (eqb b sep)) [
+    elim (cases_Bool (b == sep)) [
       | inl e ↦ record { done = [] ∷ g.done; last = g.last; cut = rw (e, g.cut); more = λ ys. rw (e, g.more ys) }
       | inr e ↦ goes_on_other sep b xs e g.done g.last g.cut g.more
     ]
@@ -92,8 +92,8 @@ first_line p rest one =
 -- there are no more lines than bytes
 pub few_lines : (text : List ℕ) → length (lines text) ≤ length text
 few_lines text =
-    let parts = length-slice_split (λ b. eqb b newline) text in
-    let few = count_by-le-length (λ b. eqb b newline) text in
+    let parts = length-slice_split (λ b. b == newline) text in
+    let few = count_by-le-length (λ b. b == newline) text in
     simp length-take (omega arith)
 
 -- a text that is ended by a newline has a line

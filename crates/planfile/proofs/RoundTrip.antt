@@ -1,5 +1,5 @@
 -- A plan file that was written from rows in time loads to their report. Assumes nothing.
-use Rattle.std.proofs.Common.{◌≡◌, ℕ, ◌+◌, ◌*◌, ◌≤◌, if◌then◌else◌, not, ◌||◌, ltb, ◌≢◌, List, [], ◌∷◌, map, length, slice_index_or, drop, Ok, Err, codes, Result, sym, ap, ◌∙◌, subst, inl, inr, arith}
+use Rattle.std.proofs.Common.{◌≡◌, ℕ, ◌+◌, ◌*◌, ◌≤◌, if◌then◌else◌, not, ◌||◌, nat_lt, ◌≢◌, List, [], ◌∷◌, map, length, slice_index_or, drop, Ok, Err, codes, Result, sym, ap, ◌∙◌, subst, inl, inr, arith}
 use Rattle.std.proofs.lemmas.List.{length-append}
 use Rattle.std.proofs.lemmas.Bool.{cond-false, le-ltb, or_from, not_from_true}
 use Rattle.analysis.specs.Judge.{InTime}
@@ -81,9 +81,9 @@ module _ (clock : Factor) (es : List Entry) (sound : SoundPlan clock es) where
 
   file_passes : (room : ℕ) → 512 ≤ room → first_blame (file_checks whole room) ≡ nothing
   file_passes room enough =
-      cond-false (ltb room 512) (by_number 19) (if ltb 4096 (length whole) || not (ends_with_newline whole) then by_number 18 else nothing) (le-ltb room 512 enough)
-      ∙ cond-false (ltb 4096 (length whole) || not (ends_with_newline whole)) (by_number 18) nothing
-      (or_from (ltb 4096 (length whole)) (not (ends_with_newline whole)) (le-ltb 4096 (length whole) few_bytes) (not_from_true (ends_with_newline whole) (lines_ended (clock_line clock) (map row_line es))))
+      cond-false (nat_lt room 512) (by_number 19) (if nat_lt 4096 (length whole) || not (ends_with_newline whole) then by_number 18 else nothing) (le-ltb room 512 enough)
+      ∙ cond-false (nat_lt 4096 (length whole) || not (ends_with_newline whole)) (by_number 18) nothing
+      (or_from (nat_lt 4096 (length whole)) (not (ends_with_newline whole)) (le-ltb 4096 (length whole) few_bytes) (not_from_true (ends_with_newline whole) (lines_ended (clock_line clock) (map row_line es))))
 
   first_line : first_fields whole ≡ fields (clock_line clock)
   first_line = ap (λ (ls : List (List ℕ)). fields (slice_index_or ls 0 [])) lines_of

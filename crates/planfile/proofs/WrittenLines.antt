@@ -1,5 +1,5 @@
 -- What the lines of a written plan file are. Assumes nothing.
-use Rattle.std.proofs.Common.{◌≡◌, ℕ, ◌<◌, ◌≤◌, true, false, not, leb, List, [], ◌∷◌, ◌++◌, map, length, codes, decimal, sym, refl, ap, ◌∙◌, arith}
+use Rattle.std.proofs.Common.{◌≡◌, ℕ, ◌<◌, ◌≤◌, true, false, not, nat_le, List, [], ◌∷◌, ◌++◌, map, length, codes, decimal, sym, refl, ap, ◌∙◌, arith}
 use Rattle.std.specs.List.{AllByRecursion}
 use Rattle.std.proofs.lemmas.List.Elements.{recursion_from_All}
 use Rattle.std.specs.Char.{is_ascii_digit}
@@ -20,7 +20,7 @@ digits_lack : (separator : ℕ) → separator < 48 → (ds : List ℕ) → all_a
 digits_lack separator low [] h = tt
 digits_lack separator low (b ∷ ds) h =
     let both = and_parts (is_ascii_digit b) (all_ascii_digits ds) h in
-    let digit = and_parts (leb 48 b) (leb b 57) both.0 in
+    let digit = and_parts (nat_le 48 b) (nat_le b 57) both.0 in
     let least = leb-true 48 b digit.0 in
     (ne_eqb b separator (λ e. omega arith), digits_lack separator low ds both.1)
 

@@ -1,5 +1,5 @@
 -- The table and the account after a call that writes a place. Assumes nothing.
-use Rattle.std.proofs.Common.{◌≡◌, ℕ, zero, suc, ◌<◌, min, true, false, not, eqb, ◌≢◌, List, [], ◌∷◌, length, get_or, take, set, Some, None, Option, sym, refl, ap, ◌∙◌, subst, subst₂, not-suc-le-zero, arith}
+use Rattle.std.proofs.Common.{◌≡◌, ℕ, zero, suc, ◌<◌, min, true, false, not, ◌==◌, ◌≢◌, List, [], ◌∷◌, length, slice_index_or, take, set, Some, None, Option, sym, refl, ap, ◌∙◌, subst, subst₂, not-suc-le-zero, arith}
 use mathlib.Core.Path.{subst₃}
 use native.Mathlib.Decide.{ℕ_discrete}
 use lib.Seq.{take-set-lt}
@@ -65,15 +65,15 @@ module _ {K : Type 0} {demand : K → Demand} {a : Account} (t : Table K) (agree
     sound = sound;
   }
     where
-      each : (i : ℕ) → i < 12 → StandsAt b (get_or (set t.states p s) i Free) (get_or (take 12 (set t.places.now p o)) i None)
+      each : (i : ℕ) → i < 12 → StandsAt b (slice_index_or (set t.states p s) i Free) (slice_index_or (take 12 (set t.places.now p o)) i None)
       each i l = elim (ℕ_discrete i p) [
         | yes e ↦
-            subst (λ (j : ℕ). StandsAt b (get_or (set t.states p s) j Free) (get_or (take 12 (set t.places.now p o)) j None)) (sym e)
+            subst (λ (j : ℕ). StandsAt b (slice_index_or (set t.states p s) j Free) (slice_index_or (take 12 (set t.places.now p o)) j None)) (sym e)
             (subst₂ (StandsAt b) (sym (get_or-set_same t.states p s Free (let all = agrees.states_are in let low = used.0 in omega arith)))
             (sym (get_or-take 12 (set t.places.now p o) p None used.0 ∙ get_or-set_same t.places.now p o None used.1)) new)
         | no ne ↦
             subst₂ (StandsAt b) (sym (get_or-set_other t.states p i s Free ne))
-            (sym (ap (λ xs. get_or xs i None) (take-set-lt 12 t.places.now p o used.0) ∙ get_or-set_other (tasks t) p i o None ne))
+            (sym (ap (λ xs. slice_index_or xs i None) (take-set-lt 12 t.places.now p o used.0) ∙ get_or-set_other (tasks t) p i o None ne))
             (stands_still a b n still (state_at t i) (task_at t i) (λ u e. none_named_at demand n (set (tasks t) p None) i u apart (get_or-set_other (tasks t) p i None None ne ∙ e)) (agrees.at_each i l))
       ]
 
@@ -93,7 +93,7 @@ module _ {K : Type 0} {demand : K → Demand} {a : Account} (t : Table K) (agree
     row_out n is hs still sound =
         let apart : has_number n rest ≡ false = rw is alone in
         written (record { number = a.number; room = a.room; rows = without_row n a.rows; holds = hs }) n refl refl still apart Free None tt
-        (permuted_back (subst (IsPermutation (without_row n a.rows)) (let out : without_row n (claim demand u ∷ rest) ≡ without_row n rest = grind (arith, nat_tests) in out ∙ without_none n rest apart) (filter_permuted (λ c. not (eqb (number_of c) n)) split))) sound
+        (permuted_back (subst (IsPermutation (without_row n a.rows)) (let out : without_row n (claim demand u ∷ rest) ≡ without_row n rest = grind (arith, nat_tests) in out ∙ without_none n rest apart) (filter_permuted (λ c. not (number_of c == n)) split))) sound
 
 -- a table after a place was written, by what was written
 put_agrees : {K : Type 0} {demand : K → Demand} {b : Account} {t u : Table K} {p : ℕ} {s : State} {o : Option (Task K)} → PutAt t u p s o → Agrees demand b t.number (set t.states p s) (set t.places.now p o) → AgreesWith demand b u
@@ -124,7 +124,7 @@ module _ {K : Type 0} {demand : K → Demand} {a : Account} (t : Table K) (agree
   row_kept u h p ours at marked =
       let it = held_at t agrees h.row p at in
       let used : Uses t p = (at.0, within t p it.task it.stands) in
-      let is : get_or t.places.now p None ≡ Some it.task = sym (get_or-take 12 t.places.now p None at.0) ∙ it.stands in
+      let is : slice_index_or t.places.now p None ≡ Some it.task = sym (get_or-take 12 t.places.now p None at.0) ∙ it.stands in
       let same_places : set t.places.now p (Some it.task) ≡ t.places.now = subst (λ o. set t.places.now p o ≡ t.places.now) is (set-get_or t.places.now p None) in
       let table : h.table ≡ a.number = ours ∙ sym agrees.number_is in
       state_agrees marked

@@ -1,5 +1,5 @@
 -- A table over places that were just emptied. Assumes nothing.
-use Rattle.std.proofs.Common.{◌≡◌, ℕ, zero, suc, ◌<◌, min, List, [], ◌∷◌, ◌++◌, length, get_or, take, drop, Some, None, Option, sym, refl, ◌∙◌, subst, subst₂, arith}
+use Rattle.std.proofs.Common.{◌≡◌, ℕ, zero, suc, ◌<◌, min, List, [], ◌∷◌, ◌++◌, length, slice_index_or, take, drop, Some, None, Option, sym, refl, ◌∙◌, subst, subst₂, arith}
 use native.Mathlib.Decide.{dec_lt}
 use Rattle.std.specs.Prelude.{All}
 use Rattle.std.proofs.lemmas.List.{length-append, length-drop, get_or_append_left, get_or_past, get_or-take, get_or-replicate}
@@ -23,13 +23,13 @@ module _ {K : Type 0} (places filled : List (Option (Task K))) (limit : ℕ) (us
     behind = drop-append-drop limit places filled 12 (omega arith) long;
   }
     where
-      at : (i : ℕ) → i < 12 → get_or (filled ++ drop limit places) i None ≡ None
+      at : (i : ℕ) → i < 12 → slice_index_or (filled ++ drop limit places) i None ≡ None
       at i l = elim (dec_lt i (length filled)) [
         | yes h ↦ get_or_append_left filled (drop limit places) None i h ∙ empty i None h
         | no h ↦ get_or_past (filled ++ drop limit places) i None (omega (arith, length-append filled (drop limit places), length-drop limit places))
       ]
 
-no_claims : {K : Type 0} (demand : K → Demand) (n : ℕ) (os : List (Option (Task K))) → ((i : ℕ) → i < n → get_or os i None ≡ None) → claims_of demand (take n os) ≡ []
+no_claims : {K : Type 0} (demand : K → Demand) (n : ℕ) (os : List (Option (Task K))) → ((i : ℕ) → i < n → slice_index_or os i None ≡ None) → claims_of demand (take n os) ≡ []
 no_claims demand zero os empty = refl
 no_claims demand (suc n) [] empty = refl
 no_claims demand (suc n) (None ∷ os) empty = no_claims demand n os (λ i l. empty (suc i) (omega arith))
@@ -40,7 +40,7 @@ abbrev pub twelve_free : List State
 twelve_free = Free ∷ Free ∷ Free ∷ Free ∷ Free ∷ Free ∷ Free ∷ Free ∷ Free ∷ Free ∷ Free ∷ Free ∷ []
 
 -- an empty table agrees with a fresh account
-pub fresh_agrees : {K : Type 0} (demand : K → Demand) (number : ℕ) (states : List State) (places : List (Option (Task K))) → length states ≡ 12 → ((i : ℕ) → i < 12 → get_or states i Free ≡ Free) → ((i : ℕ) → i < 12 → get_or places i None ≡ None) → Agrees demand (fresh_account number (min (length places) 12)) number states places
+pub fresh_agrees : {K : Type 0} (demand : K → Demand) (number : ℕ) (states : List State) (places : List (Option (Task K))) → length states ≡ 12 → ((i : ℕ) → i < 12 → slice_index_or states i Free ≡ Free) → ((i : ℕ) → i < 12 → slice_index_or places i None ≡ None) → Agrees demand (fresh_account number (min (length places) 12)) number states places
 fresh_agrees demand number states places long free empty = record {
   number_is = refl;
   states_are = long;

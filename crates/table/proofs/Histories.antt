@@ -1,5 +1,5 @@
 -- What a table has been through, and what is then true of it. Assumes nothing.
-use Rattle.std.proofs.Common.{◌≡◌, ℕ, zero, suc, ◌<◌, min, true, false, List, [], ◌∷◌, ◌++◌, length, get_or, take, Some, None, Ok, Err, Option, Result, eqb, sym, refl, ap, ◌∙◌, subst, inl, inr, ◌⊎◌, arith, eqb-true, not-suc-le-zero}
+use Rattle.std.proofs.Common.{◌≡◌, ℕ, zero, suc, ◌<◌, min, true, false, List, [], ◌∷◌, ◌++◌, length, slice_index_or, take, Some, None, Ok, Err, Option, Result, ◌==◌, sym, refl, ap, ◌∙◌, subst, inl, inr, ◌⊎◌, arith, eqb-true, not-suc-le-zero}
 use mathlib.Core.Path.{ap₂}
 use Rattle.std.proofs.Math.Logic.{∥∥₁_elim, ∥∥₁_map, ∥∥₁_prop}
 use Rattle.std.specs.Prelude.{◌↔◌, ◌≢◌, Contains}
@@ -67,7 +67,7 @@ unspent_among : (table n : ℕ) (hs : List Bears) → has_unspent table n hs ≡
 unspent_among table n hs e =
     let found = Any-from_list_any (bears table n) hs e in
     let h : Bears = found.1 in
-    let both = and_parts (eqb h.table table) (eqb h.row n) found.4 in
+    let both = and_parts (h.table == table) (h.row == n) found.4 in
     subst (Contains hs) (ap₂ bears_of (eqb-true h.table table both.0) (eqb-true h.row n both.1)) (found.0, found.2, found.3)
   where
     bears_of : ℕ → ℕ → Bears
@@ -81,7 +81,7 @@ module _ {K : Type 0} (demand : K → Demand) where
   claim u = record { row = u.row; demand = demand u.kind }
 
   -- a task at a place is one of the rows
-  among_claims : (os : List (Option (Task K))) (p : ℕ) (u : Task K) → get_or os p None ≡ Some u → Contains (claims_of demand os) (claim u)
+  among_claims : (os : List (Option (Task K))) (p : ℕ) (u : Task K) → slice_index_or os p None ≡ Some u → Contains (claims_of demand os) (claim u)
   among_claims [] p u e = cc
   among_claims (None ∷ os) zero u e = cc
   among_claims (Some x ∷ os) zero u e = is_first (claims_of demand os) (ap claim (let same : x ≡ u = cc in same))
@@ -93,7 +93,7 @@ module _ {K : Type 0} (demand : K → Demand) where
     place : ℕ
     within : place < length os
     task : Task K
-    there : get_or os place None ≡ Some task
+    there : slice_index_or os place None ≡ Some task
     holds : P task
 
   behind : (o : Option (Task K)) (os : List (Option (Task K))) (P : Task K → Type 0) → Found os P → Found (o ∷ os) P
@@ -110,7 +110,7 @@ module _ {K : Type 0} (demand : K → Demand) where
   number_found : (os : List (Option (Task K))) (n : ℕ) → has_number n (claims_of demand os) ≡ true → Found os (λ u. u.row.number ≡ n)
   number_found [] n e = cc
   number_found (None ∷ os) n e = behind None os (λ u. u.row.number ≡ n) (number_found os n e)
-  number_found (Some x ∷ os) n e = elim (cases_Bool (eqb x.row.number n)) [
+  number_found (Some x ∷ os) n e = elim (cases_Bool (x.row.number == n)) [
     | inl here ↦ record { place = 0; within = omega arith; task = x; there = refl; holds = eqb-true x.row.number n here }
     | inr other ↦ behind (Some x) os (λ u. u.row.number ≡ n) (number_found os n (rw other at e))
   ]
@@ -119,7 +119,7 @@ module _ {K : Type 0} (demand : K → Demand) where
   alone : (x : Task K) (os : List (Option (Task K))) → DistinctNumbers (claims_of demand (Some x ∷ os)) → has_number x.row.number (claims_of demand os) ≡ false
   alone x os d = no_number x.row.number (claims_of demand os) (pairs_head (λ c d. number_of c ≢ number_of d) (claim x) (claims_of demand os) d)
 
-  one_place : (os : List (Option (Task K))) → DistinctNumbers (claims_of demand os) → (p q : ℕ) (u v : Task K) → get_or os p None ≡ Some u → get_or os q None ≡ Some v → u.row.number ≡ v.row.number → p ≡ q
+  one_place : (os : List (Option (Task K))) → DistinctNumbers (claims_of demand os) → (p q : ℕ) (u v : Task K) → slice_index_or os p None ≡ Some u → slice_index_or os q None ≡ Some v → u.row.number ≡ v.row.number → p ≡ q
   one_place [] d p q u v e f same = cc
   one_place (None ∷ os) d zero q u v e f same = cc
   one_place (None ∷ os) d (suc p) zero u v e f same = cc
@@ -162,8 +162,8 @@ module _ {K : Type 0} (demand : K → Demand) (es : List Event) (t : Table K) (h
   task_there : (p : ℕ) (c : Claim) (r : RowAt demand t p c) → task_at t p ≡ Some r.task
   task_there p c r = get_or-take 12 t.places.now p None r.used ∙ r.there
 
-  stands_there : (p : ℕ) (c : Claim) (r : RowAt demand t p c) → StandsAt a (get_or t.states p Free) (Some r.task)
-  stands_there p c r = subst (StandsAt a (get_or t.states p Free)) (task_there p c r) (h.agrees.at_each p r.used)
+  stands_there : (p : ℕ) (c : Claim) (r : RowAt demand t p c) → StandsAt a (slice_index_or t.states p Free) (Some r.task)
+  stands_there p c r = subst (StandsAt a (slice_index_or t.states p Free)) (task_there p c r) (h.agrees.at_each p r.used)
 
   -- a place where a row was found
   abbrev found_at : (P : Task K → Type 0) (f : Found demand (take 12 t.places.now) P) → RowAt demand t f.place (claim demand f.task)
@@ -233,7 +233,7 @@ module _ {K : Type 0} (demand : K → Demand) (es : List Event) (t : Table K) (h
   held_stand : (n : ℕ) → StandsHeld demand t n ↔ Unspent n es
   held_stand n =
       let same = held_unspent t.number (min (length t.places.now) 12) n es h.answered in (
-        λ x. same.0 (unspent_among a.number n a.holds (held_unspent_there a x.row.task n (get_or t.states x.place Free) x.state (stands_there x.place x.claim x.row))),
+        λ x. same.0 (unspent_among a.number n a.holds (held_unspent_there a x.row.task n (slice_index_or t.states x.place Free) x.state (stands_there x.place x.claim x.row))),
         λ s.
             let unspent_is = among_unspent a.number n a.holds (same.1 s) in
             let f = number_found demand (take 12 t.places.now) n (number_permuted n h.agrees.rows_are ∙ unspent_row a.number a.rows a.number n a.holds sound.holds unspent_is) in
@@ -243,7 +243,7 @@ module _ {K : Type 0} (demand : K → Demand) (es : List Event) (t : Table K) (h
               claim = claim demand f.task;
               row = r;
               number = f.holds;
-              state = is_held_there a n (get_or t.states f.place Free) (Some f.task) (stands_there f.place (claim demand f.task) r) (eq-eqb f.task.row.number n f.holds) unspent_is;
+              state = is_held_there a n (slice_index_or t.states f.place Free) (Some f.task) (stands_there f.place (claim demand f.task) r) (eq-eqb f.task.row.number n f.holds) unspent_is;
             },
       )
 
@@ -259,7 +259,7 @@ module _ {K : Type 0} (demand : K → Demand) (es : List Event) (t : Table K) (h
     standing = rows_stand;
     held = held_stand;
     held_or_kept = λ p c r.
-        subst (λ (n : ℕ). (get_or t.states p Free ≡ Held n) ⊎ (get_or t.states p Free ≡ Kept n)) (sym (number_is p c r)) (held_or_kept a r.task (get_or t.states p Free) (stands_there p c r));
+        subst (λ (n : ℕ). (slice_index_or t.states p Free ≡ Held n) ⊎ (slice_index_or t.states p Free ≡ Kept n)) (sym (number_is p c r)) (held_or_kept a r.task (slice_index_or t.states p Free) (stands_there p c r));
     one_row = λ p q c d r s e.
         one_place demand (take 12 t.places.now) (numbers_permuted (permuted_back h.agrees.rows_are) sound.numbers) p q r.task s.task (task_there p c r) (task_there q d s) (sym (number_is p c r) ∙ e ∙ number_is q d s);
   }

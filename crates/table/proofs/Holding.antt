@@ -1,5 +1,5 @@
 -- How a hold is refused or accepted. Assumes nothing.
-use Rattle.std.proofs.Common.{◌≡◌, ◌==◌, ℕ, ◌<◌, ◌≤◌, Bool, true, false, cond, leb, List, [], ◌∷◌, ◌++◌, length, is_some, not, None, Some, Option, inl, inr, sym, refl, ap, ◌∙◌, arith, ne_eqb}
+use Rattle.std.proofs.Common.{◌≡◌, ◌==◌, ℕ, ◌<◌, ◌≤◌, Bool, true, false, if◌then◌else◌, nat_le, List, [], ◌∷◌, ◌++◌, length, is_some, not, None, Some, Option, inl, inr, sym, refl, ap, ◌∙◌, arith, ne_eqb}
 use Rattle.std.proofs.lemmas.Bool.{cond_both}
 use Rattle.demand.specs.Demand.{Demand}
 use Rattle.analysis.specs.declared.Task.{Task}
@@ -43,23 +43,23 @@ module _ (a : Account) (c : Claim) where
       let high = first_at_most 5 9 (row_checks a c) (row_numbered a c) in
       record {
         by_number =
-            first_front (row_checks a c) ((leb a.room (length a.rows), 10) ∷ []) (omega arith)
+            first_front (row_checks a c) ((nat_le a.room (length a.rows), 10) ∷ []) (omega arith)
             ∙ sym is
-            ∙ sym (ap (λ (b : Bool). cond b 0 (hold_number e)) (ne_eqb (hold_number e) 11 (λ q. omega arith)));
+            ∙ sym (ap (λ (b : Bool). (if b then 0 else hold_number e)) (ne_eqb (hold_number e) 11 (λ q. omega arith)));
         late = λ q. absurd (omega arith);
       }
 
-  behind : first (row_checks a c) ≡ 0 → (b : Bool) → leb a.room (length a.rows) ≡ b → first (hold_checks a c) ≡ cond b 10 0
+  behind : first (row_checks a c) ≡ 0 → (b : Bool) → nat_le a.room (length a.rows) ≡ b → first (hold_checks a c) ≡ (if b then 10 else 0)
   behind z b e =
-      first_behind 5 9 (row_checks a c) ((leb a.room (length a.rows), 10) ∷ []) (omega arith) (row_numbered a c) z
-      ∙ ap (λ (x : Bool). cond x 10 0) e
+      first_behind 5 9 (row_checks a c) ((nat_le a.room (length a.rows), 10) ∷ []) (omega arith) (row_numbered a c) z
+      ∙ ap (λ (x : Bool). (if x then 10 else 0)) e
 
   -- a row whose numbers pass is refused where the account has no room
-  pub no_place : first (row_checks a c) ≡ 0 → leb a.room (length a.rows) ≡ true → Refused a c NoPlace
+  pub no_place : first (row_checks a c) ≡ 0 → nat_le a.room (length a.rows) ≡ true → Refused a c NoPlace
   no_place z e = record { by_number = behind z true e; late = λ q. absurd (omega arith) }
 
   -- and passes all checks where it has
-  pub passes : first (row_checks a c) ≡ 0 → leb a.room (length a.rows) ≡ false → first (hold_checks a c) ≡ 0
+  pub passes : first (row_checks a c) ≡ 0 → nat_le a.room (length a.rows) ≡ false → first (hold_checks a c) ≡ 0
   passes z e = behind z false e
 
 module _ {K : Type 0} {demand : K → Demand} {a : Account} (t : Table K) (agrees : AgreesWith demand a t) (c : Claim) (early : 0 ≡ first (row_checks a c)) (r : Option ℕ) (place : PlaceWhere t (λ s. s ≡ Free) r) where
@@ -76,6 +76,6 @@ pub refused_judged : {K : Type 0} {demand : K → Demand} {a : Account} (t : Tab
 refused_judged t agrees u z e (inl many) = absurd (never_too_many t agrees u z many.2)
 refused_judged t agrees u z e (inr some) =
     record {
-      by_number = z ∙ sym (ap (λ n. cond (n == 11) 0 n) some.0);
+      by_number = z ∙ sym (ap (λ n. (if n == 11 then 0 else n)) some.0);
       late = λ _. newcomer_late t agrees u z (hold_late e) some.1;
     }

@@ -1,6 +1,6 @@
 -- A hold in hand is spent without refusal, and some account agrees after each call. Assumes nothing.
 use Rattle.std.specs.List.{list_any}
-use Rattle.std.proofs.Common.{◌≡◌, ℕ, zero, suc, ◌<◌, inl, inr, get_or, length, true, false, eqb, List, [], ◌∷◌, IfErr, IfOk, IsOk, Ok, Err, Result, ap, ◌∙◌, sym, subst, refl, arith}
+use Rattle.std.proofs.Common.{◌≡◌, ℕ, zero, suc, ◌<◌, inl, inr, slice_index_or, length, true, false, ◌==◌, List, [], ◌∷◌, IfErr, IfOk, IsOk, Ok, Err, Result, ap, ◌∙◌, sym, subst, refl, arith}
 use Rattle.std.proofs.Math.Logic.{∥∥₁_elim, ∥∥₁_map}
 use Rattle.std.proofs.lemmas.Bool.{cases_Bool, and_from, both_ways, eq-eqb, or_left, eqb-true, or_right}
 use Rattle.std.specs.Coded.{Coded-set, coded_bool, coded_ℕ}
@@ -66,7 +66,7 @@ none_has n cs none e = both_ways (has_number n cs) none e
 -- a hold that was accepted bears the two numbers that the account has of it
 pub given_bears : (a : Account) (c : Claim) (h : Hold) → Accepted a c h → bears h.table h.row (record { table = a.number; row = number_of c }) ≡ true
 given_bears a c h accepted =
-    and_from (eqb a.number h.table) (eqb (number_of c) h.row)
+    and_from (a.number == h.table) (number_of c == h.row)
     (eq-eqb a.number h.table (sym accepted.table))
     (eq-eqb (number_of c) h.row (sym accepted.row))
 
@@ -79,7 +79,7 @@ same_holds a b n (Ok u) w = ap (λ (x : Account). x.holds) w.1
 same_holds a b n (Err e) w = ap (λ (x : Account). x.holds) w.1
 
 -- a state of a held row is at a place, if any has it
-held_place : (states : List State) (n : ℕ) → list_any (is_held n) states ≡ true → (p : ℕ) × (p < length states) × (get_or states p Free ≡ Held n)
+held_place : (states : List State) (n : ℕ) → list_any (is_held n) states ≡ true → (p : ℕ) × (p < length states) × (slice_index_or states p Free ≡ Held n)
 held_place [] n e = cc
 held_place (s ∷ states) n e = elim (cases_Bool (is_held n s)) [
   | inl here ↦ (0, omega arith, state_is s here)
@@ -93,9 +93,9 @@ held_place (s ∷ states) n e = elim (cases_Bool (is_held n s)) [
     state_is (Held m) e = ap Held (eqb-true m n e)
     state_is (Kept m) e = cc
 
-held_at_place : (states : List State) (n p : ℕ) → get_or states p Free ≡ Held n → list_any (is_held n) states ≡ true
+held_at_place : (states : List State) (n p : ℕ) → slice_index_or states p Free ≡ Held n → list_any (is_held n) states ≡ true
 held_at_place [] n p e = cc
-held_at_place (s ∷ states) n zero e = rw e (or_left (eqb n n) (list_any (is_held n) states) (eq-eqb n n refl))
+held_at_place (s ∷ states) n zero e = rw e (or_left (n == n) (list_any (is_held n) states) (eq-eqb n n refl))
 held_at_place (s ∷ states) n (suc p) e = or_right (is_held n s) (list_any (is_held n) states) (held_at_place states n p e)
 
 -- a call that makes the table t the table u
@@ -152,7 +152,7 @@ module _ {K : Type 0} {demand : K → Demand} {a : Account} (t : Table K) (agree
     | inr none ↦ none ∙ sym (not_unspent t agrees (hold_of t.number n) (λ p here. both_ways (has_held t n) none (held_at_place t.states n p here.1.1)))
   ]
     where
-      held_here : (p : ℕ) → p < length t.states → get_or t.states p Free ≡ Held n → HeldHere t (hold_of t.number n) p
+      held_here : (p : ℕ) → p < length t.states → slice_index_or t.states p Free ≡ Held n → HeldHere t (hold_of t.number n) p
       held_here p l e =
           let low : p < 12 = let all = agrees.states_are in omega arith in
           let it = held_at t agrees n p (low, e) in

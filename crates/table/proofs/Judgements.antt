@@ -1,5 +1,5 @@
 -- What the judgement of the rows at the places says of the account. Assumes nothing.
-use Rattle.std.proofs.Common.{◌≡◌, ℕ, zero, suc, ◌<◌, false, eqb, ◌≢◌, List, [], ◌∷◌, ◌++◌, length, get_or, Some, None, Ok, Err, Option, Result, IfOk, sym, refl, ◌∙◌, subst, inl, inr, arith, length-take, eqb-true}
+use Rattle.std.proofs.Common.{◌≡◌, ℕ, zero, suc, ◌<◌, false, ◌==◌, ◌≢◌, List, [], ◌∷◌, ◌++◌, length, slice_index_or, Some, None, Ok, Err, Option, Result, IfOk, sym, refl, ◌∙◌, subst, inl, inr, arith, length-take, eqb-true}
 use Rattle.std.specs.Option.{ok_or}
 use Rattle.std.proofs.lemmas.Bool.Decides.{nat_tests}
 use Rattle.std.proofs.lemmas.Bool.{cases_Bool}
@@ -41,13 +41,13 @@ none_numbered n all (c ∷ cs) h = grind (arith, nat_tests, h 0, none_numbered n
 record AnswerAt (n t v : ℕ) (answers : List Answer) : Type 0 where
   rank : ℕ
   within : rank < length answers
-  number : (get_or answers rank no_answer).number ≡ n
+  number : (slice_index_or answers rank no_answer).number ≡ n
   bound : t ≡ bounds_of answers rank
   vector : v ≡ vectors_of answers rank
 
 answer_at : (n t v : ℕ) (answers : List Answer) → answer_of n answers ≡ Some (t, v) → AnswerAt n t v answers
 answer_at n t v [] e = cc
-answer_at n t v (x ∷ rest) e = elim (cases_Bool (eqb x.number n)) [
+answer_at n t v (x ∷ rest) e = elim (cases_Bool (x.number == n)) [
   | inl h ↦
       let here = some_pair_parts x.bound t x.vector v (rw h at e) in
       record { rank = 0; within = omega arith; number = eqb-true x.number n h; bound = sym here.0; vector = sym here.1 }
@@ -56,7 +56,7 @@ answer_at n t v (x ∷ rest) e = elim (cases_Bool (eqb x.number n)) [
       record { rank = suc behind.rank; within = let l = behind.within in omega arith; number = behind.number; bound = behind.bound; vector = behind.vector }
 ]
 
-no_answer_at : (n : ℕ) (answers : List Answer) → answer_of n answers ≡ None → (k : ℕ) → k < length answers → (get_or answers k no_answer).number ≢ n
+no_answer_at : (n : ℕ) (answers : List Answer) → answer_of n answers ≡ None → (k : ℕ) → k < length answers → (slice_index_or answers k no_answer).number ≢ n
 no_answer_at n [] e k l = omega arith
 no_answer_at n (x ∷ rest) e zero l = grind (arith, nat_tests)
 no_answer_at n (x ∷ rest) e (suc k) l = grind (arith, nat_tests, no_answer_at n rest)

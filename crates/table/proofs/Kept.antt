@@ -1,5 +1,5 @@
 -- Every call keeps the account sound. Assumes nothing.
-use Rattle.std.proofs.Common.{◌≡◌, ◌==◌, ◌≢◌, ℕ, true, false, not, eqb, List, [], ◌∷◌, Ok, Err, refl, not-suc-le-zero}
+use Rattle.std.proofs.Common.{◌≡◌, ◌==◌, ◌≢◌, ℕ, true, false, not, List, [], ◌∷◌, Ok, Err, refl, not-suc-le-zero}
 use Rattle.std.proofs.lemmas.List.Elements.{All-cons, All-filter, All-nil}
 use Rattle.std.proofs.lemmas.List.Kept.{AllPairs-cons, AllPairs-filter}
 use Rattle.std.proofs.lemmas.Bool.{or_left, eq-eqb}
@@ -41,7 +41,7 @@ with_row_sound a s c lawful passes in_time =
       in_time = in_time;
       holds =
           All-cons (λ h. (h.table ≡ a.number) × (has_number h.row (c ∷ a.rows) ≡ true)) (record { table = a.number; row = number_of c }) a.holds
-          (refl, or_left (eqb (number_of c) (number_of c)) (has_number (number_of c) a.rows) (eq-eqb (number_of c) (number_of c) refl))
+          (refl, or_left (number_of c == number_of c) (has_number (number_of c) a.rows) (eq-eqb (number_of c) (number_of c) refl))
           (own_more a.number a.rows c a.holds s.holds);
     }
 

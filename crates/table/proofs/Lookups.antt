@@ -1,5 +1,5 @@
 -- What a look into the table says of the account. Assumes nothing.
-use Rattle.std.proofs.Common.{MatchOption, ◌≡◌, ℕ, suc, ◌+◌, ◌<◌, ◌≤◌, Bool, true, false, cond, not, ◌||◌, eqb, leb, ltb, List, [], ◌∷◌, length, get_or, take, is_some, Some, None, Option, sym, refl, ap, ◌∙◌, subst, arith, lt-ltb}
+use Rattle.std.proofs.Common.{MatchOption, ◌≡◌, ℕ, suc, ◌+◌, ◌<◌, ◌≤◌, Bool, true, false, if◌then◌else◌, not, ◌||◌, ◌==◌, nat_le, nat_lt, List, [], ◌∷◌, length, slice_index_or, take, is_some, Some, None, Option, sym, refl, ap, ◌∙◌, subst, arith, lt-ltb}
 use Rattle.std.specs.List.{filter, flat_map, list_any}
 use native.Mathlib.Decide.{dec_lt}
 use denote.Ref.{Bor}
@@ -29,10 +29,10 @@ tasks t = take 12 t.places.now
 
 -- the task and the state at one of them
 abbrev pub task_at : {K : Type 0} → Table K → ℕ → Option (Task K)
-task_at t i = get_or (tasks t) i None
+task_at t i = slice_index_or (tasks t) i None
 
 abbrev pub state_at : {K : Type 0} → Table K → ℕ → State
-state_at t i = get_or t.states i Free
+state_at t i = slice_index_or t.states i Free
 
 -- at one of the first twelve places, P is true of the state
 abbrev pub AtLow : {K : Type 0} → Table K → (State → Type 0) → ℕ → Type 0
@@ -56,23 +56,23 @@ within t p u e = elim (dec_lt p (length (tasks t))) [
 -- the task at a place has the number n
 abbrev pub named : {K : Type 0} → ℕ → Option (Task K) → Bool
 named n None = false
-named n (Some u) = eqb u.row.number n
+named n (Some u) = u.row.number == n
 
 names_task : {K : Type 0} (a : Account) (n : ℕ) (s : State) (o : Option (Task K)) → StandsAt a s o → names s n ≡ named n o
 names_task a n s o h = grind arith
 
-not_below : (m n : ℕ) → leb n m ≡ not (ltb m n)
+not_below : (m n : ℕ) → nat_le n m ≡ not (nat_lt m n)
 not_below m n = grind (arith, nat_tests)
 
-ltb_suc : (m n : ℕ) → ltb (suc m) (suc n) ≡ ltb m n
+ltb_suc : (m n : ℕ) → (nat_lt (suc m) (suc n)) ≡ (nat_lt m n)
 ltb_suc m n = grind (arith, nat_tests)
 
 module _ {K : Type 0} (demand : K → Demand) where
   -- the tasks of the places are those of the rows
-  pub priority_is : (p : ℕ) (os : List (Option (Task K))) → list_any (λ (t : Task K). eqb t.row.priority p) (flat_map option_to_list os) ≡ has_priority p (claims_of demand os)
+  pub priority_is : (p : ℕ) (os : List (Option (Task K))) → list_any (λ (t : Task K). t.row.priority == p) (flat_map option_to_list os) ≡ has_priority p (claims_of demand os)
   priority_is p [] = refl
   priority_is p (None ∷ os) = priority_is p os
-  priority_is p (Some t ∷ os) = ap (λ b. eqb t.row.priority p || b) (priority_is p os)
+  priority_is p (Some t ∷ os) = ap (λ b. (t.row.priority == p) || b) (priority_is p os)
 
   -- where the rows have the number n, a task has it
   pub named_more : (n : ℕ) (o : Option (Task K)) (os : List (Option (Task K))) → has_number n (claims_of demand (o ∷ os)) ≡ (named n o || has_number n (claims_of demand os))
@@ -129,13 +129,13 @@ module _ {K : Type 0} {demand : K → Demand} {a : Account} (t : Table K) (agree
   priority_found p = priority_permuted p agrees.rows_are
 
   -- a place is free exactly where the account has room
-  pub place_free : (r : Option ℕ) → PlaceWhere t (λ s. s ≡ Free) r → leb a.room (length a.rows) ≡ not (is_some r)
+  pub place_free : (r : Option ℕ) → PlaceWhere t (λ s. s ≡ Free) r → nat_le a.room (length a.rows) ≡ not (is_some r)
   place_free r f =
       let room : length (tasks t) ≡ a.room = omega (arith, length-take 12 t.places.now, agrees.room_is) in
       not_below (length a.rows) a.room
-      ∙ ap not (sym (found (λ s. s ≡ Free) (λ os. ltb (length (claims_of demand os)) (length os)) is_none refl step (λ s o h e. grind arith) (λ s o h e. grind arith) r f ∙ rw (room, length_permuted agrees.rows_are)))
+      ∙ ap not (sym (found (λ s. s ≡ Free) (λ os. (nat_lt (length (claims_of demand os)) (length os))) is_none refl step (λ s o h e. grind arith) (λ s o h e. grind arith) r f ∙ rw (room, length_permuted agrees.rows_are)))
     where
-      step : (o : Option (Task K)) (os : List (Option (Task K))) → ltb (length (claims_of demand (o ∷ os))) (length (o ∷ os)) ≡ (is_none o || ltb (length (claims_of demand os)) (length os))
+      step : (o : Option (Task K)) (os : List (Option (Task K))) → (nat_lt (length (claims_of demand (o ∷ os))) (length (o ∷ os))) ≡ (is_none o || (nat_lt (length (claims_of demand os)) (length os)))
       step None os = lt-ltb (length (claims_of demand os)) (length (None ∷ os)) (let l = claims_at_most demand os in omega arith)
       step (Some u) os = ltb_suc (length (claims_of demand os)) (length os)
 
@@ -148,10 +148,10 @@ pub given_at : {A : Type 0} (s : OptionIter A) (o : Option A) → option_iter_it
 given_at {A} s o item unread = subst (YieldsList option_iter_steps (λ x. x.now) s) (ap left_of unread ∙ ap option_to_list item) (YieldsList-from_shown option_iter_steps (λ x. x.now) left none some s)
   where
     left_of : Bool → List A
-    left_of b = cond b [] (option_to_list (option_iter_item s))
+    left_of b = (if b then [] else (option_to_list (option_iter_item s)))
 
     left : OptionIter A → List A
-    left s = cond (option_iter_done s) [] (option_to_list (option_iter_item s))
+    left s = (if (option_iter_done s) then [] else (option_to_list (option_iter_item s)))
 
     none : (s t : OptionIter A) → option_iter_steps s None t → length (left s) ≡ 0
     none s t h = grind arith

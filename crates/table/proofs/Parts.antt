@@ -1,5 +1,5 @@
 -- Rows and holds that are taken out of a list, by their numbers. Assumes nothing.
-use Rattle.std.proofs.Common.{◌≡◌, ◌<◌, ℕ, zero, suc, true, false, not, eqb, ◌≢◌, ◌⊎◌, inl, inr, Bool, List, [], ◌∷◌, length, get_or, sym, refl, ◌∙◌, subst, arith}
+use Rattle.std.proofs.Common.{◌≡◌, ◌<◌, ℕ, zero, suc, true, false, not, ◌==◌, ◌≢◌, ◌⊎◌, inl, inr, Bool, List, [], ◌∷◌, length, slice_index_or, sym, refl, ◌∙◌, subst, arith}
 use Rattle.std.specs.Prelude.{All, Contains}
 use Rattle.std.specs.List.{filter, list_any}
 use Rattle.std.proofs.lemmas.List.Elements.{Contains-append_cases, All-contains, All-contains_itself, All-filter, All-weaker, filter_passes}
@@ -23,13 +23,13 @@ module _ {A : Type 0} where
   pub first_or_later : {x : A} (y : A) (ys : List A) → Contains (y ∷ ys) x → (y ≡ x) ⊎ Contains ys x
   first_or_later {x = x} y ys m = go m.0 m.1 m.2
     where
-      go : (k : ℕ) → k < length (y ∷ ys) → get_or (y ∷ ys) k x ≡ x → (y ≡ x) ⊎ Contains ys x
+      go : (k : ℕ) → k < length (y ∷ ys) → slice_index_or (y ∷ ys) k x ≡ x → (y ≡ x) ⊎ Contains ys x
       go zero l e = inl e
       go (suc k) l e = inr (k, omega arith, e)
 
   -- where no element passes a test, each fails it
   pub none_passes : (test : A → Bool) (xs : List A) → list_any test xs ≡ false → All (λ x. test x ≡ false) xs
-  none_passes test xs e k d l = false_from_ne_true (test (get_or xs k d)) (λ q. both_ways (list_any test xs) e (list_any_at test xs k d l q))
+  none_passes test xs e k d l = false_from_ne_true (test (slice_index_or xs k d)) (λ q. both_ways (list_any test xs) e (list_any_at test xs k d l q))
 
   -- what a filter keeps was there, and passes; and what was there and passes is kept
   pub was_kept : (test : A → Bool) (x : A) (xs : List A) → Contains (filter test xs) x → Contains xs x × (test x ≡ true)
@@ -49,11 +49,11 @@ pub without_some : (n : ℕ) (cs : List Claim) → SomeOf ◌≡◌ (without_row
 without_some n [] = none
 without_some n (c ∷ cs) =
     let rest = without_some n cs in
-    cond_both (not (eqb (number_of c) n)) (c ∷ without_row n cs) (without_row n cs) (λ xs. SomeOf ◌≡◌ xs (c ∷ cs)) (λ _. keep refl rest) (λ _. leave rest)
+    cond_both (not (number_of c == n)) (c ∷ without_row n cs) (without_row n cs) (λ xs. SomeOf ◌≡◌ xs (c ∷ cs)) (λ _. keep refl rest) (λ _. leave rest)
 
 -- where no row has the number n by `by`, that of each is another
-pub others_differ : (by : Claim → ℕ) (n : ℕ) (cs : List Claim) → list_any (λ c. eqb (by c) n) cs ≡ false → All (λ c. n ≢ by c) cs
-others_differ by n cs e = All-weaker (λ c. eqb (by c) n ≡ false) (λ c. n ≢ by c) (λ c q same. both_ways (eqb (by c) n) q (eq-eqb (by c) n (sym same))) cs (none_passes (λ c. eqb (by c) n) cs e)
+pub others_differ : (by : Claim → ℕ) (n : ℕ) (cs : List Claim) → list_any (λ c. by c == n) cs ≡ false → All (λ c. n ≢ by c) cs
+others_differ by n cs e = All-weaker (λ c. (by c == n) ≡ false) (λ c. n ≢ by c) (λ c q same. both_ways (by c == n) q (eq-eqb (by c) n (sym same))) cs (none_passes (λ c. by c == n) cs e)
 
 pub other_numbers : (n : ℕ) (cs : List Claim) → has_number n cs ≡ false → All (λ c. n ≢ number_of c) cs
 other_numbers = others_differ number_of
@@ -63,7 +63,7 @@ other_priorities = others_differ (λ c. c.row.priority)
 
 -- and one that is none of theirs no row has
 pub no_number : (n : ℕ) (cs : List Claim) → All (λ c. n ≢ number_of c) cs → has_number n cs ≡ false
-no_number n cs others = list_any_none (λ c. eqb (number_of c) n) cs (λ k d l. false_from_ne_true (eqb (number_of (get_or cs k d)) n) (λ q. others k d l (sym (eqb-true (number_of (get_or cs k d)) n q))))
+no_number n cs others = list_any_none (λ c. number_of c == n) cs (λ k d l. false_from_ne_true ((number_of (slice_index_or cs k d)) == n) (λ q. others k d l (sym (eqb-true (number_of (slice_index_or cs k d)) n q))))
 
 -- the row of another number is still there
 has_still : (m n : ℕ) → m ≢ n → (cs : List Claim) → has_number m (without_row n cs) ≡ has_number m cs
@@ -84,18 +84,18 @@ module _ (table : ℕ) (cs : List Claim) where
   Own rows h = (h.table ≡ table) × (has_number h.row rows ≡ true)
 
   pub own_more : (c : Claim) (hs : List Bears) → OwnHolds table cs hs → OwnHolds table (c ∷ cs) hs
-  own_more c hs o = All-weaker (Own cs) (Own (c ∷ cs)) (λ h p. (p.0, or_right (eqb (number_of c) h.row) (has_number h.row cs) p.1)) hs o
+  own_more c hs o = All-weaker (Own cs) (Own (c ∷ cs)) (λ h p. (p.0, or_right (number_of c == h.row) (has_number h.row cs) p.1)) hs o
 
   -- a row goes out that no hold bears
   pub own_without : (n : ℕ) (hs : List Bears) → has_hold_on n hs ≡ false → OwnHolds table cs hs → OwnHolds table (without_row n cs) hs
   own_without n hs e o k d l =
-      let other = none_passes (λ (h : Bears). eqb h.row n) hs e k d l in
-      ((o k d l).0, has_still (get_or hs k d).row n (λ q. both_ways (eqb (get_or hs k d).row n) other (eq-eqb (get_or hs k d).row n q)) cs ∙ (o k d l).1)
+      let other = none_passes (λ (h : Bears). h.row == n) hs e k d l in
+      ((o k d l).0, has_still (slice_index_or hs k d).row n (λ q. both_ways ((slice_index_or hs k d).row == n) other (eq-eqb (slice_index_or hs k d).row n q)) cs ∙ (o k d l).1)
 
   -- a row goes out with its hold
   pub own_released : (t n : ℕ) → t ≡ table → (hs : List Bears) → OwnHolds table cs hs → OwnHolds table (without_row n cs) (without_hold t n hs)
   own_released t n e hs o k d l =
-      let h : Bears = get_or (without_hold t n hs) k d in
+      let h : Bears = slice_index_or (without_hold t n hs) k d in
       let own = All-filter (λ h. not (bears t n h)) (Own cs) hs o k d l in
       let left = not-true (bears t n h) (filter_passes (λ h. not (bears t n h)) hs k d l) in
       (own.0, has_still h.row n (λ q. both_ways (bears t n h) left (grind (arith, nat_tests, own.0))) cs ∙ own.1)
@@ -106,7 +106,7 @@ module _ (table : ℕ) (cs : List Claim) where
       let found = Any-from_list_any (bears t n) hs e in
       let h : Bears = found.1 in
       let own : Own cs h = subst (Own cs) found.3 (o found.0 h found.2) in
-      let numbers = and_parts (eqb h.table t) (eqb h.row n) found.4 in
+      let numbers = and_parts (h.table == t) (h.row == n) found.4 in
       (sym (eqb-true h.table t numbers.0) ∙ own.0, subst (λ (m : ℕ). has_number m cs ≡ true) (eqb-true h.row n numbers.1) own.1)
 
   pub unspent_own : (t n : ℕ) (hs : List Bears) → OwnHolds table cs hs → has_unspent t n hs ≡ true → t ≡ table
@@ -117,10 +117,10 @@ module _ (table : ℕ) (cs : List Claim) where
 
 -- a row that is left was there, and has another number
 pub was_there : (c : Claim) (n : ℕ) (cs : List Claim) → Contains (without_row n cs) c → Contains cs c × (number_of c ≢ n)
-was_there c n cs m = let was = was_kept (λ d. not (eqb (number_of d) n)) c cs m in (was.0, grind (arith, nat_tests, was.1))
+was_there c n cs m = let was = was_kept (λ d. not (number_of d == n)) c cs m in (was.0, grind (arith, nat_tests, was.1))
 
 pub stays_there : (c : Claim) (n : ℕ) (cs : List Claim) → number_of c ≢ n → Contains cs c → Contains (without_row n cs) c
-stays_there c n cs ne m = is_kept (λ d. not (eqb (number_of d) n)) c cs (grind (arith, nat_tests)) m
+stays_there c n cs ne m = is_kept (λ d. not (number_of d == n)) c cs (grind (arith, nat_tests)) m
 
 -- a hold that is left was unspent, and bears another row
 pub was_unspent : (x : Bears) (t n : ℕ) (hs : List Bears) → x.table ≡ t → Contains (without_hold t n hs) x → Contains hs x × (x.row ≢ n)

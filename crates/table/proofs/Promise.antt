@@ -1,5 +1,5 @@
 -- What every run keeps, of the account: bounds and vectors, who is late, ranks. Assumes nothing.
-use Rattle.std.proofs.Common.{◌≡◌, ℕ, zero, suc, ◌<◌, cond, eqb, List, [], ◌∷◌, ◌++◌, length, get_or, Ok, Err, Result, sym, refl, ap, ◌∙◌, not-suc-le-zero, arith}
+use Rattle.std.proofs.Common.{◌≡◌, ℕ, zero, suc, ◌<◌, if◌then◌else◌, ◌==◌, List, [], ◌∷◌, ◌++◌, length, slice_index_or, Ok, Err, Result, sym, refl, ap, ◌∙◌, not-suc-le-zero, arith}
 use native.Mathlib.Decide.{dec_lt}
 use Rattle.std.specs.Prelude.{Contains}
 use Rattle.std.proofs.lemmas.List.Elements.{All-cons}
@@ -53,7 +53,7 @@ run_before start [] e earlier run = run
 run_before start (x ∷ later) e earlier run = run_before start later e earlier run.0
 
 -- the row of a rank
-claim_at : (all : List Row) (cs : List Claim) (k : ℕ) (d : Claim) → k < length cs → (load_at (loads_of all cs) k).claim ≡ get_or cs k d
+claim_at : (all : List Row) (cs : List Claim) (k : ℕ) (d : Claim) → k < length cs → (load_at (loads_of all cs) k).claim ≡ slice_index_or cs k d
 claim_at all [] k d l = absurd (not-suc-le-zero l)
 claim_at all (c ∷ cs) zero d l = refl
 claim_at all (c ∷ cs) (suc k) d l = claim_at all cs k d (omega arith)
@@ -78,10 +78,10 @@ same_rank all cs d j k hj hk e = elim (dec_lt j k) [
     c : Claim
     c = (load_at (loads_of all cs) j).claim
 
-    same_number_there : number_of (get_or cs j c) ≡ number_of (get_or cs k c)
+    same_number_there : number_of (slice_index_or cs j c) ≡ number_of (slice_index_or cs k c)
     same_number_there = sym (ap number_of (claim_at all cs j c hj)) ∙ e ∙ ap number_of (claim_at all cs k c hk)
 
-pub is_late : (e : HoldRefusal) → cond (eqb (hold_number e) 11) 0 (hold_number e) ≡ 0 → hold_number e ≡ 11
+pub is_late : (e : HoldRefusal) → (if hold_number e == 11 then 0 else hold_number e) ≡ 0 → hold_number e ≡ 11
 is_late e q = grind arith
 
 module _ (a : Account) (s : Sound a) where

@@ -1,5 +1,5 @@
 -- Rows in another order, checks of which none applies, rows that are in time, and places. Assumes nothing.
-use Rattle.std.proofs.Common.{◌≡◌, ℕ, zero, suc, ◌<◌, ◌≤◌, Bool, true, false, cond, eqb, ltb, ◌≢◌, List, [], ◌∷◌, length, get_or, Some, None, Option, sym, refl, ap, ◌∙◌, subst, arith}
+use Rattle.std.proofs.Common.{◌≡◌, ℕ, zero, suc, ◌<◌, ◌≤◌, Bool, true, false, if◌then◌else◌, ◌==◌, nat_lt, ◌≢◌, List, [], ◌∷◌, length, slice_index_or, Some, None, Option, sym, refl, ap, ◌∙◌, subst, arith}
 use Rattle.std.specs.Prelude.{All, Contains, IsPermutation}
 use Rattle.std.proofs.lemmas.List.Sorted.{Contains-permutation, list_any-IsPermutation, IsPermutation-cons, IsPermutation-sym, IsPermutation-trans, length_permutation}
 use Rattle.std.specs.List.{filter}
@@ -43,12 +43,12 @@ filter_reordered : {A : Type 0} (test : A → Bool) {xs ys : List A} → Reorder
 filter_reordered test same = same
 filter_reordered test (next {a = a} {xs = xs} {ys = ys} r) = go (test a) (filter_reordered test r)
   where
-    go : (b : Bool) → Reordered (filter test xs) (filter test ys) → Reordered (cond b (a ∷ filter test xs) (filter test xs)) (cond b (a ∷ filter test ys) (filter test ys))
+    go : (b : Bool) → Reordered (filter test xs) (filter test ys) → Reordered (if b then (a ∷ filter test xs) else (filter test xs)) (if b then (a ∷ filter test ys) else (filter test ys))
     go true q = next q
     go false q = q
 filter_reordered {A = A} test (swapped {a = a} {b = b} {xs = xs}) = go (test a) (test b) (filter test xs)
   where
-    go : (s t : Bool) (zs : List A) → Reordered (cond s (a ∷ cond t (b ∷ zs) zs) (cond t (b ∷ zs) zs)) (cond t (b ∷ cond s (a ∷ zs) zs) (cond s (a ∷ zs) zs))
+    go : (s t : Bool) (zs : List A) → Reordered (if s then (a ∷ (if t then (b ∷ zs) else zs)) else (if t then (b ∷ zs) else zs)) (if t then (b ∷ (if s then (a ∷ zs) else zs)) else (if s then (a ∷ zs) else zs))
     go true true zs = swapped
     go true false zs = reordered_refl (a ∷ zs)
     go false true zs = reordered_refl (b ∷ zs)
@@ -60,10 +60,10 @@ filter_permuted test p = reordered_is_permutation (filter_reordered test (permut
 
 -- the order of the rows does not matter
 pub number_permuted : (n : ℕ) {xs ys : List Claim} → IsPermutation xs ys → has_number n xs ≡ has_number n ys
-number_permuted n {xs = xs} {ys = ys} = list_any-IsPermutation (λ c. eqb (number_of c) n) xs ys
+number_permuted n {xs = xs} {ys = ys} = list_any-IsPermutation (λ c. number_of c == n) xs ys
 
 pub priority_permuted : (q : ℕ) {xs ys : List Claim} → IsPermutation xs ys → has_priority q xs ≡ has_priority q ys
-priority_permuted q {xs = xs} {ys = ys} = list_any-IsPermutation (λ c. eqb c.row.priority q) xs ys
+priority_permuted q {xs = xs} {ys = ys} = list_any-IsPermutation (λ c. c.row.priority == q) xs ys
 
 pub numbers_permuted : {xs ys : List Claim} → IsPermutation xs ys → DistinctNumbers xs → DistinctNumbers ys
 numbers_permuted {xs = xs} {ys = ys} p = pairs_permuted (λ c d. number_of c ≢ number_of d) (λ c d ne e. ne (sym e)) xs ys p
@@ -101,10 +101,10 @@ passed a c e =
       room = leb-false a.room (length a.rows) none_of.1.1.1.1.1.0;
       byte =
           ltb-false 255 (number_of c)
-          (or_parts (eqb (number_of c) 0) (ltb 255 (number_of c)) (or_parts (is_no_number (number_of c)) (has_number (number_of c) a.rows) none_of.0).0).1;
+          (or_parts (number_of c == 0) (nat_lt 255 (number_of c)) (or_parts (is_no_number (number_of c)) (has_number (number_of c) a.rows) none_of.0).0).1;
       deadline =
           ltb-false c.demand.spacing c.row.deadline
-          (or_parts (eqb c.row.deadline 0) (ltb c.demand.spacing c.row.deadline) none_of.1.1.1.0).1;
+          (or_parts (c.row.deadline == 0) (nat_lt c.demand.spacing c.row.deadline) none_of.1.1.1.0).1;
     }
 
 pub needs_grow : (cs : List Claim) → LawfulRows cs → Grows (system_of cs)
@@ -126,7 +126,7 @@ all_ranks cs t = subst (λ (n : ℕ). Bounds (system_of cs) n t.R t.V) (sym (len
 pub has_plan : (cs : List Claim) → LawfulRows cs → AllInTime cs → NoPlan (system_of cs) → ⊥
 has_plan cs lawful t no_plan = no_plan t.V t.R (is_plan (system_of cs) (needs_grow cs lawful) t.R t.V (all_ranks cs t))
 
-pub none_named_at : {K : Type 0} (demand : K → Demand) (n : ℕ) (os : List (Option (Task K))) (p : ℕ) (u : Task K) → has_number n (claims_of demand os) ≡ false → get_or os p None ≡ Some u → u.row.number ≢ n
+pub none_named_at : {K : Type 0} (demand : K → Demand) (n : ℕ) (os : List (Option (Task K))) (p : ℕ) (u : Task K) → has_number n (claims_of demand os) ≡ false → slice_index_or os p None ≡ Some u → u.row.number ≢ n
 none_named_at demand n [] p u h e = cc
 none_named_at demand n (o ∷ os) zero u h e = grind (arith, nat_tests)
 none_named_at demand n (o ∷ os) (suc p) u h e = grind (arith, nat_tests, none_named_at demand n os p u)

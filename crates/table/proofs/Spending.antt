@@ -1,5 +1,5 @@
 -- Holds that are spent and holds that are not, by where they stand in the table. Assumes nothing.
-use Rattle.std.proofs.Common.{◌≢◌, ◌≡◌, ℕ, ◌<◌, Bool, true, false, not, get_or, List, [], ◌∷◌, Some, None, Option, Err, Result, sym, refl, ap, ◌∙◌, subst, arith}
+use Rattle.std.proofs.Common.{◌≢◌, ◌≡◌, ℕ, ◌<◌, Bool, true, false, not, slice_index_or, List, [], ◌∷◌, Some, None, Option, Err, Result, sym, refl, ap, ◌∙◌, subst, arith}
 use Rattle.std.proofs.lemmas.List.{length-take}
 use Rattle.std.proofs.lemmas.List.Elements.{All-head, All-tail, filter_passes}
 use Rattle.std.proofs.lemmas.List.Folds.{list_any_none}
@@ -34,7 +34,7 @@ same_held table n cs (h ∷ hs) own = grind (arith, nat_tests, (All-head (λ g. 
 
 -- after a hold is spent none bears its numbers
 pub spent_gone : (table n : ℕ) (hs : List Bears) → has_unspent table n (without_hold table n hs) ≡ false
-spent_gone table n hs = list_any_none (bears table n) (without_hold table n hs) (λ k d l. not-true (bears table n (get_or (without_hold table n hs) k d)) (filter_passes (λ h. not (bears table n h)) hs k d l))
+spent_gone table n hs = list_any_none (bears table n) (without_hold table n hs) (λ k d l. not-true (bears table n (slice_index_or (without_hold table n hs) k d)) (filter_passes (λ h. not (bears table n h)) hs k d l))
 
 module _ {K : Type 0} (a : Account) (n : ℕ) where
   -- where the hold of a task's row is unspent, the row is held

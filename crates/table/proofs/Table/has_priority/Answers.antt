@@ -1,4 +1,4 @@
-use Rattle.std.proofs.Common.{eqb, take, ◌∙◌, rules}
+use Rattle.std.proofs.Common.{◌==◌, take, ◌∙◌, rules}
 use borrow.Author.Tests.{tests}
 use Rattle.std.specs.Option.{option_to_list}
 use Rattle.std.proofs.lemmas.Iterator.{YieldsList-from_slice}
@@ -11,7 +11,7 @@ use Rattle.table.proofs.Table.has_priority.Goals as goal
 
 pub returns : goal.returns
 returns g c a agrees =
-    any_from_yields_List {v = λ x. x.now} (λ (t : Task g.row.K.Denot). eqb t.row.priority c.args.priority) _ _ _ c.any.ensures.ran
+    any_from_yields_List {v = λ x. x.now} (λ (t : Task g.row.K.Denot). t.row.priority == c.args.priority) _ _ _ c.any.ensures.ran
     (YieldsList-from_flatten _ _ (λ x. x.now) option_to_list (λ x j b. given_at j x.now b.0 b.1) (YieldsList-at c.flatten.ensures.source (YieldsList-from_slice c.used_places.result.now cc)) c.flatten.ensures.front c.flatten.ensures.back c.flatten.ensures.done)
     (λ x b q k. search (rules, tests))
     ∙ rw c.used_places.ensures (priority_is g.K.Kind.demand c.args.priority (take 12 c.args.self.now.places.now) ∙ priority_found c.args.self.now agrees c.args.priority)
