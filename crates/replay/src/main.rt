@@ -67,17 +67,28 @@ fn answer_log<R: Read + Drop, W: Write>(
     }
 }
 
-// Writes the answers to a file. An error names the file, but for one of writing, which is not about the file.
+// Says what an error is about: the log of this name, or what is written, which is not about the log.
+fn name_error<W>(
+    answered: io::Result<Outcome>,
+    name: &str,
+    out: &Output<W>,
+) -> anyhow::Result<Outcome> {
+    let about = if out.failed {
+        "the answers cannot be written"
+    } else {
+        name
+    };
+    answered.context(format_args!("{about}"))
+}
+
+// Writes the answers to a file.
 fn answer_file<W: Write>(
     rt: &HostRuntime,
     name: &str,
     out: &mut Output<W>,
 ) -> anyhow::Result<Outcome> {
     let answered = File::open(rt, name).and_then(|file| answer_log(rt, file, out));
-    if out.failed {
-        return answered.context("the answers cannot be written");
-    }
-    answered.context(format_args!("{name}"))
+    name_error(answered, name, out)
 }
 
 // Says on standard error what went wrong. If that fails too, the exit status still says it.
@@ -131,7 +142,8 @@ fn run(rt: &HostRuntime) -> anyhow::Result<Outcome> {
     }
     let mut out = Output::new(io::writer(rt));
     if args.is_empty() {
-        return Ok(answer_log(rt, rt.stdin(), &mut out)?);
+        let answered = answer_log(rt, rt.stdin(), &mut out);
+        return name_error(answered, "standard input", &out);
     }
     answer_files(rt, &args, &mut out)
 }
