@@ -1,0 +1,86 @@
+//! The built programs, which answer many cases in one run.
+
+use crate::cases::Case;
+use std::fs;
+use std::io::{self, Write};
+use std::path::{Path, PathBuf};
+use std::process::{Command, ExitStatus, Output, Stdio};
+use std::thread;
+
+/// How a program gets its cases.
+#[derive(Clone, Copy, PartialEq, Eq)]
+pub enum Feed {
+    /// one behind the other on standard input
+    Input,
+    /// as files that are named
+    Files,
+    /// likewise, and it prints the name of each before its answer
+    NamedFiles,
+}
+
+/// A program.
+pub struct Program {
+    pub path: PathBuf,
+    pub feed: Feed,
+}
+
+/// What a run of it came to.
+pub struct Ran {
+    pub printed: Vec<u8>,
+    pub error: Vec<u8>,
+    pub status: ExitStatus,
+}
+
+impl From<Output> for Ran {
+    fn from(output: Output) -> Ran {
+        Ran {
+            printed: output.stdout,
+            error: output.stderr,
+            status: output.status,
+        }
+    }
+}
+
+impl Program {
+    /// What stands behind the answer that is due for the case at a place of a run, if a text begins with that.
+    pub fn strip<'a>(&self, place: usize, case: &Case, text: &'a [u8]) -> Option<&'a [u8]> {
+        let answer = match self.feed {
+            Feed::NamedFiles => text.strip_prefix(format!("{place}\n").as_bytes())?,
+            Feed::Input | Feed::Files => text,
+        };
+        answer.strip_prefix(case.due.as_bytes())
+    }
+
+    /// Runs it on some cases, in a folder where their files may stand.
+    pub fn run(&self, folder: &Path, cases: &[Case]) -> io::Result<Ran> {
+        let name_program = |error| io::Error::other(format!("{}: {error}", self.path.display()));
+        self.try_to_run(folder, cases).map_err(name_program)
+    }
+
+    fn try_to_run(&self, folder: &Path, cases: &[Case]) -> io::Result<Ran> {
+        let mut command = Command::new(&self.path);
+        command
+            .current_dir(folder)
+            .stdout(Stdio::piped())
+            .stderr(Stdio::piped());
+        if self.feed == Feed::Input {
+            let mut child = command.stdin(Stdio::piped()).spawn()?;
+            let mut input = child.stdin.take().expect("standard input is a pipe");
+            return thread::scope(|scope| {
+                // a program that ends early is seen by what it printed
+                scope.spawn(move || {
+                    cases
+                        .iter()
+                        .try_for_each(|case| input.write_all(&case.input))
+                });
+                child.wait_with_output().map(Ran::from)
+            });
+        }
+        for (place, case) in cases.iter().enumerate() {
+            let name = place.to_string();
+            fs::write(folder.join(&name), &case.input)?;
+            command.arg(name);
+        }
+        command.stdin(Stdio::null()).output().map(Ran::from)
+    }
+}

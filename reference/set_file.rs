@@ -1,0 +1,195 @@
+//! Sets of rows, as `judge_sets` reads them: a line for each row, and one that says what is asked of the rows before it. Single
+//! blanks stand between the fields.
+
+use crate::account::Account;
+use crate::check::{Blame, Check};
+use crate::found::{Judge, Late};
+use crate::kind::{Factor, Jobs, Kind, Layer};
+use crate::row::{Row, LOCKS, MOST_ROWS};
+use std::iter::Peekable;
+use std::str::Split;
+
+/// What is asked of a set.
+#[derive(Clone, Copy, Debug)]
+pub enum Question {
+    /// what is found for each row
+    Judge,
+    /// whether the last row can be held over the others, so many times
+    Hold(u32),
+}
+
+/// What is printed for a set, and the check that speaks against it.
+pub struct SetAnswer {
+    pub text: String,
+    pub refusal: Option<Check>,
+}
+
+impl Question {
+    pub fn line(self) -> String {
+        match self {
+            Question::Judge => String::from("judge\n"),
+            Question::Hold(times) => format!("hold {times}\n"),
+        }
+    }
+}
+
+fn judge_set(judge: Judge, rows: &[Row]) -> SetAnswer {
+    let (text, refusal) = if rows.len() > MOST_ROWS {
+        (String::from("too many\n"), Some(Check::NoPlace))
+    } else {
+        match judge(rows) {
+            Ok(found) => (found.iter().map(|row| row.line(' ')).collect(), None),
+            Err(Late(number)) => (format!("late {number}\n"), Some(Check::Late)),
+        }
+    };
+    SetAnswer { text, refusal }
+}
+
+/// Holds the last row so many times, over a table that keeps the others, and releases it each time.
+fn hold_last(judge: Judge, rows: &[Row], times: u32) -> Result<(), Blame> {
+    let Some((last, others)) = rows.split_last() else {
+        return Ok(());
+    };
+    let mut account = Account::new(judge, MOST_ROWS);
+    for row in others {
+        account.hold(*row)?;
+        account.keep(row.number)?;
+    }
+    for _ in 0..times {
+        account.hold(*last)?;
+        account.release(last.number)?;
+    }
+    Ok(())
+}
+
+fn hold_set(judge: Judge, rows: &[Row], times: u32) -> SetAnswer {
+    let held = hold_last(judge, rows, times);
+    let text = match held {
+        Ok(()) => format!("held {times}\n"),
+        Err(Blame::Late(number)) => format!("late {number}\n"),
+        Err(blame) => format!("refused {}\n", blame.check() as u32),
+    };
+    SetAnswer {
+        text,
+        refusal: held.err().map(Blame::check),
+    }
+}
+
+/// What is printed for a set.
+pub fn answer(judge: Judge, rows: &[Row], question: Question) -> SetAnswer {
+    let SetAnswer { text, refusal } = match question {
+        Question::Judge => judge_set(judge, rows),
+        Question::Hold(times) => hold_set(judge, rows, times),
+    };
+    SetAnswer {
+        text: text + "end\n",
+        refusal,
+    }
+}
+
+/// A line: a row, or what is asked of the rows before it.
+enum Line {
+    Row(Row),
+    Ask(Question),
+}
+
+/// The fields of a line that are left.
+struct Words<'a>(Peekable<Split<'a, char>>);
+
+impl Words<'_> {
+    fn number(&mut self) -> Option<u32> {
+        self.0.next()?.parse().ok()
+    }
+
+    fn numbers<const N: usize>(&mut self) -> Option<[u32; N]> {
+        let mut numbers = [0; N];
+        for number in &mut numbers {
+            *number = self.number()?;
+        }
+        Some(numbers)
+    }
+
+    /// A layer, if one stands here.
+    fn layer(&mut self) -> Option<Option<Layer>> {
+        let layer = match *self.0.peek()? {
+            "delayed" => {
+                self.0.next();
+                Layer::Delayed(self.number()?)
+            }
+            "slowed" => {
+                self.0.next();
+                let [numerator, denominator] = self.numbers()?;
+                Layer::Slowed(Factor {
+                    numerator,
+                    denominator,
+                })
+            }
+            _ => return Some(None),
+        };
+        Some(Some(layer))
+    }
+
+    fn jobs(&mut self) -> Option<Jobs> {
+        match self.0.next()? {
+            "every" => {
+                let [job, period] = self.numbers()?;
+                Some(Jobs::Every { job, period })
+            }
+            "heavy" => {
+                let [job, heavy, among, period] = self.numbers()?;
+                Some(Jobs::Heavy {
+                    job,
+                    heavy,
+                    among,
+                    period,
+                })
+            }
+            _ => None,
+        }
+    }
+
+    fn row(&mut self) -> Option<Row> {
+        let [number, priority, suspension, suspensions, deadline] = self.numbers()?;
+        let sections = self.numbers::<LOCKS>()?;
+        let outer = self.layer()?;
+        let inner = self.layer()?;
+        let layers = [inner, outer];
+        let jobs = self.jobs()?;
+        Some(Row {
+            number,
+            priority,
+            suspension,
+            suspensions,
+            deadline,
+            sections,
+            kind: Kind { jobs, layers },
+        })
+    }
+}
+
+fn read_line(line: &str) -> Option<Line> {
+    let mut words = Words(line.split(' ').peekable());
+    let line = match words.0.next()? {
+        "row" => Line::Row(words.row()?),
+        "judge" => Line::Ask(Question::Judge),
+        "hold" => Line::Ask(Question::Hold(words.number()?)),
+        _ => return None,
+    };
+    words.0.next().is_none().then_some(line)
+}
+
+/// What is printed for all sets of a text; or the number of the first line that cannot be read.
+pub fn answer_all(judge: Judge, text: &str) -> Result<String, usize> {
+    let mut answers = String::new();
+    let mut rows = Vec::new();
+    for (number, line) in (1usize..).zip(text.lines()) {
+        match read_line(line).ok_or(number)? {
+            Line::Row(row) => rows.push(row),
+            Line::Ask(question) => {
+                answers += &answer(judge, &rows, question).text;
+                rows.clear();
+            }
+        }
+    }
+    Ok(answers)
+}
