@@ -16,13 +16,7 @@ pub struct Account {
 impl Account {
     /// The account of a new table with room for so many rows.
     pub fn new(judge: Judge, room: usize) -> Account {
-        Account {
-            judge,
-            room,
-            rows: Vec::new(),
-            found: Vec::new(),
-            unspent: Vec::new(),
-        }
+        Account { judge, room, rows: Vec::new(), found: Vec::new(), unspent: Vec::new() }
     }
 
     /// What is found for all rows, highest first.

@@ -1,6 +1,6 @@
 //! The cases that are compared: what a program is given, made at random, and what it has to print for it.
 
-use crate::check::Check;
+use crate::answer::Answer;
 use crate::damage::damage_some;
 use crate::making::{
     entering_row, file_row, judged_set, light_set, some_clock, sound_set, Deal, Weight, LAST_NUMBER,
@@ -15,30 +15,36 @@ use crate::{log_file, plan_file, set_file};
 pub struct Case {
     pub input: Vec<u8>,
     /// what has to be printed
-    pub due: String,
+    pub due: Answer,
     /// the exit status that is due where this is the only case
     pub status: i32,
-    /// by which checks something was refused
-    pub refusals: Vec<Check>,
-    /// how much was compared in it: plans of a set, lines of a file or of a log
+    /// how much is compared in it: the plans of a set, the lines of a file or of a log
     pub parts: u64,
     /// what speaks against what is due
     pub against: Option<String>,
 }
 
+impl Case {
+    /// A file or a log; whether it fails is said by the exit status.
+    fn of_lines(input: Vec<u8>, due: Answer, fails: bool) -> Case {
+        Case {
+            parts: input.iter().filter(|byte| **byte == b'\n').count() as u64,
+            input,
+            due,
+            status: i32::from(fails),
+            against: None,
+        }
+    }
+}
+
 /// A set of rows: mostly to be judged, or its last row is to be held over the others.
 pub fn some_set(random: &mut Random) -> Case {
-    let question = if random.one_in(8) {
-        Question::Hold(random.within(0, 3))
-    } else {
-        Question::Judge
-    };
+    let question = if random.one_in(8) { Question::Hold(random.within(0, 3)) } else { Question::Judge };
     let rows = match question {
         _ if random.one_in(2000) => light_set(random),
         Question::Judge => judged_set(random),
         Question::Hold(_) => sound_set(random),
     };
-    let answer = set_file::answer(scan::judge, &rows, question);
     let mut input: String = rows.iter().map(Row::set_line).collect();
     input += &question.line();
     let (parts, against) = match question {
@@ -47,9 +53,8 @@ pub fn some_set(random: &mut Random) -> Case {
     };
     Case {
         input: input.into_bytes(),
-        due: answer.text,
+        due: set_file::answer(scan::judge, &rows, question),
         status: 0,
-        refusals: answer.refusal.into_iter().collect(),
         parts,
         against,
     }
@@ -59,10 +64,7 @@ pub fn some_set(random: &mut Random) -> Case {
 fn try_plans(rows: &[Row]) -> (u64, Option<String>) {
     let ranks = scan::rank_rows(rows);
     let judged = scan::judge_ranks(&ranks);
-    (
-        scan::plans(rows.len()).len() as u64,
-        scan::plan_against(&ranks, &judged),
-    )
+    (scan::plans(rows.len()).len() as u64, scan::plan_against(&ranks, &judged))
 }
 
 /// A plan file of up to five rows, or now and then of 11 to 13, sound or with some damage.
@@ -74,21 +76,15 @@ pub fn some_file(random: &mut Random) -> Case {
         Weight::Light => random.within(11, 13),
         Weight::Usual => random.below(6),
     };
-    let mut text = format!("clock\t{}\t{}\n", clock.numerator, clock.denominator);
+    let mut text = clock.line();
     for place in 0..rows {
         text += &file_row(random, weight, clock, deal, place).tab_line("row");
     }
     let mut input = text.into_bytes();
     damage_some(random, &mut input);
-    let answer = plan_file::answer(scan::judge, &input);
-    Case {
-        parts: input.iter().filter(|byte| **byte == b'\n').count() as u64,
-        input,
-        due: answer.text,
-        status: i32::from(answer.refusal.is_some()),
-        refusals: answer.refusal.into_iter().collect(),
-        against: None,
-    }
+    let due = plan_file::answer(scan::judge, &input);
+    let fails = !due.refusals.is_empty();
+    Case::of_lines(input, due, fails)
 }
 
 /// The number of a row that may be there.
@@ -108,7 +104,7 @@ fn some_evening(random: &mut Random) -> String {
     };
     let clock = some_clock(random);
     let mut text = format!("table\t{}\t{places}\n", random.byte());
-    text += &format!("clock\t{}\t{}\n", clock.numerator, clock.denominator);
+    text += &clock.line();
     // numbers of rows that asked to enter, the last ones
     let mut numbers = Vec::new();
     // where tables are to fill up, nearly all calls are holds
@@ -138,21 +134,11 @@ fn some_evening(random: &mut Random) -> String {
 
 /// A log of one evening, or now and then of up to three, sound or with some damage.
 pub fn some_log(random: &mut Random) -> Case {
-    let evenings = if random.one_in(4) {
-        random.within(2, 3)
-    } else {
-        1
-    };
+    let evenings = if random.one_in(4) { random.within(2, 3) } else { 1 };
     let text: String = (0..evenings).map(|_| some_evening(random)).collect();
     let mut input = text.into_bytes();
     damage_some(random, &mut input);
-    let answer = log_file::answer(scan::judge, &input);
-    Case {
-        input,
-        due: answer.text,
-        status: i32::from(!answer.is_well_formed),
-        refusals: answer.refusals,
-        parts: answer.lines,
-        against: None,
-    }
+    let due = log_file::answer(scan::judge, &input);
+    let fails = !due.refusals.iter().all(|check| check.is_of_table());
+    Case::of_lines(input, due, fails)
 }

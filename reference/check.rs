@@ -36,6 +36,13 @@ pub enum Blame {
     Late(u32),
 }
 
+impl Check {
+    /// Whether a call of a table is answered by it, on a line that is well formed.
+    pub fn is_of_table(self) -> bool {
+        (Check::Number..=Check::NotKept).contains(&self)
+    }
+}
+
 impl Blame {
     pub fn check(self) -> Check {
         match self {
@@ -76,10 +83,7 @@ fn is_length(n: u32) -> bool {
 
 /// The checks of a factor.
 pub fn check_factor(factor: Factor) -> Result<(), Check> {
-    let Factor {
-        numerator,
-        denominator,
-    } = factor;
+    let Factor { numerator, denominator } = factor;
     let sound = 1 <= denominator && denominator <= numerator && numerator <= 1000;
     unless(sound, Check::Speed)
 }
@@ -88,21 +92,10 @@ pub fn check_factor(factor: Factor) -> Result<(), Check> {
 pub fn check_jobs(jobs: Jobs, delay: u32) -> Result<(), Check> {
     let (job, heavy, among, period) = match jobs {
         Jobs::Every { job, period } => (job, job, 2, period),
-        Jobs::Heavy {
-            job,
-            heavy,
-            among,
-            period,
-        } => (job, heavy, among, period),
+        Jobs::Heavy { job, heavy, among, period } => (job, heavy, among, period),
     };
-    unless(
-        is_length(job) && is_length(heavy) && job <= heavy,
-        Check::Job,
-    )?;
-    unless(
-        is_length(period) && (2..=64).contains(&among),
-        Check::Period,
-    )?;
+    unless(is_length(job) && is_length(heavy) && job <= heavy, Check::Job)?;
+    unless(is_length(period) && (2..=64).contains(&among), Check::Period)?;
     unless(delay < period, Check::Delay)
 }
 
@@ -117,10 +110,7 @@ pub fn check_row(row: &Row, others: &[Row], room: usize) -> Result<(), Check> {
     let in_limits = row.suspension <= 1_000_000 && row.suspensions <= 63;
     unless(both_or_none && in_limits, Check::Suspension)?;
     let deadline = u64::from(row.deadline);
-    unless(
-        1 <= deadline && deadline <= row.kind.spacing(),
-        Check::Deadline,
-    )?;
+    unless(1 <= deadline && deadline <= row.kind.spacing(), Check::Deadline)?;
     let longest = row.sections.iter().copied().max().unwrap_or(0);
     unless(u64::from(longest) <= row.kind.own(), Check::Section)?;
     unless(others.len() < room, Check::NoPlace)

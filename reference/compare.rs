@@ -93,11 +93,7 @@ impl Shared<'_> {
             let mut ended = threads.into_iter().map(|thread| thread.join());
             ended.try_for_each(|ended| ended.expect("no thread has panicked"))
         })?;
-        let Shared {
-            comparison,
-            seed,
-            progress,
-        } = self;
+        let Shared { comparison, seed, progress } = self;
         let progress = progress.into_inner().expect("no thread has panicked");
         if let Some(Difference { index, text }) = progress.difference {
             let text = format!("{}, case {index} of seed {seed}\n{text}", comparison.cases);
@@ -112,10 +108,7 @@ impl Shared<'_> {
 
 /// The comparisons that are asked for.
 fn comparisons(options: &Options, programs: &Path) -> [Comparison; 3] {
-    let program = |name: &str, feed| Program {
-        path: programs.join(name),
-        feed,
-    };
+    let program = |name: &str, feed| Program { path: programs.join(name), feed };
     [
         Comparison {
             cases: "sets",
@@ -153,11 +146,7 @@ pub fn compare_all(options: &Options) -> Result<(), Halt> {
         .iter()
         .filter(|comparison| comparison.count > 0)
         .try_for_each(|comparison| {
-            let shared = Shared {
-                comparison,
-                seed: options.seed,
-                progress: Mutex::default(),
-            };
+            let shared = Shared { comparison, seed: options.seed, progress: Mutex::default() };
             shared.run(&folder)
         });
     fs::remove_dir_all(&folder)?;

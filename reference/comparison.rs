@@ -61,7 +61,7 @@ impl AddAssign<&Seen> for Seen {
 impl Seen {
     fn note(&mut self, case: &Case) {
         self.parts += case.parts;
-        for check in &case.refusals {
+        for check in &case.due.refusals {
             *self.refusals.entry(*check).or_default() += 1;
         }
     }
@@ -110,7 +110,8 @@ impl Comparison {
     fn tell(&self, folder: &Path, case: &Case, ran: &Ran, rest: &[u8]) -> io::Result<String> {
         let alone = self.program.run(folder, slice::from_ref(case))?;
         let input = told(&case.input);
-        let Case { due, status, .. } = case;
+        let due = &case.due.text;
+        let status = case.status;
         let printed = told(&alone.printed);
         let error = told(&alone.error);
         let mut text = format!(
@@ -119,7 +120,7 @@ impl Comparison {
             alone.status
         );
         let is_due = self.program.strip(0, case, &alone.printed) == Some(b"");
-        if is_due && alone.status.code() == Some(*status) {
+        if is_due && alone.status.code() == Some(status) {
             let here = told(&rest[..rest.len().min(due.len() + 200)]);
             let error = told(&ran.error);
             text += &format!("But among others, with {}:\n{here}\n{error}\n", ran.status);
@@ -129,17 +130,9 @@ impl Comparison {
 
     /// Prints what was seen in all cases, and answers a check that is due and never came up.
     pub fn print_seen(&self, seen: &Seen) -> Option<u32> {
-        let Comparison {
-            cases,
-            parts,
-            count,
-            ..
-        } = self;
+        let Comparison { cases, parts, count, .. } = self;
         let refused: u64 = seen.refusals.values().sum();
-        println!(
-            "{cases}: {count} compared, {} {parts}, {refused} refused, 0 differ",
-            seen.parts
-        );
+        println!("{cases}: {count} compared, {} {parts}, {refused} refused, 0 differ", seen.parts);
         println!("refused, by check:");
         for (check, count) in &seen.refusals {
             println!("  {}: {count}", *check as u32);
@@ -153,8 +146,5 @@ impl Comparison {
 /// What is told where some plan speaks against what the brute force found.
 fn tell_against(case: &Case, against: &str) -> String {
     let input = told(&case.input);
-    format!(
-        "The input:\n{input}\nThe reference:\n{}\n{against}\n",
-        case.due
-    )
+    format!("The input:\n{input}\nThe reference:\n{}\n{against}\n", case.due.text)
 }

@@ -130,11 +130,7 @@ fn damage(random: &mut Random, text: &mut Vec<u8>) {
 
 /// Does up to three damages to every second text or so.
 pub fn damage_some(random: &mut Random, text: &mut Vec<u8>) {
-    let damages = if random.one_in(4) {
-        random.within(2, 3)
-    } else {
-        random.below(2)
-    };
+    let damages = if random.one_in(4) { random.within(2, 3) } else { random.below(2) };
     for _ in 0..damages {
         damage(random, text);
     }

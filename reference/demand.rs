@@ -23,22 +23,14 @@ struct JobRuns {
 
 impl JobRuns {
     fn new(pattern: Pattern) -> JobRuns {
-        JobRuns {
-            pattern,
-            jobs: 0,
-            totals: vec![0; pattern.among as usize],
-        }
+        JobRuns { pattern, jobs: 0, totals: vec![0; pattern.among as usize] }
     }
 
     /// Each run gets its next job.
     fn lengthen(&mut self) {
         for (place, total) in (0..).zip(&mut self.totals) {
             let is_heavy = (place + self.jobs) % self.pattern.among == 0;
-            *total += if is_heavy {
-                self.pattern.heavy
-            } else {
-                self.pattern.job
-            };
+            *total += if is_heavy { self.pattern.heavy } else { self.pattern.job };
         }
         self.jobs += 1;
     }
@@ -65,14 +57,7 @@ impl Demand {
             totals.push(runs.longest());
             release += pattern.period;
         }
-        Demand {
-            kind,
-            delays,
-            releases,
-            totals,
-            own: kind.own(),
-            least: kind.least(),
-        }
+        Demand { kind, delays, releases, totals, own: kind.own(), least: kind.least() }
     }
 
     /// The most work in a window. Jobs that come late stand in a window that is longer by the delay.
@@ -81,9 +66,7 @@ impl Demand {
             .delays
             .iter()
             .rev()
-            .fold(window.min(LONGEST_WINDOW), |window, delay| {
-                (window + delay).min(LONGEST_WINDOW)
-            });
+            .fold(window.min(LONGEST_WINDOW), |window, delay| (window + delay).min(LONGEST_WINDOW));
         let jobs = self.releases.partition_point(|release| *release < window);
         self.kind.slow_up(self.totals[jobs])
     }

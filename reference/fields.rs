@@ -74,10 +74,7 @@ impl<'a> Fields<'a> {
         self.begin_with("clock")?;
         self.count(3)?;
         let [numerator, denominator] = self.numbers(2)?;
-        let factor = Factor {
-            numerator,
-            denominator,
-        };
+        let factor = Factor { numerator, denominator };
         check_factor(factor)?;
         Ok(factor)
     }
@@ -98,12 +95,7 @@ impl<'a> Fields<'a> {
             Jobs::Every { job, period }
         } else {
             let [job, heavy, among, period] = self.numbers(17)?;
-            Jobs::Heavy {
-                job,
-                heavy,
-                among,
-                period,
-            }
+            Jobs::Heavy { job, heavy, among, period }
         };
         check_jobs(jobs, delay)?;
         Ok(Row {
@@ -113,10 +105,7 @@ impl<'a> Fields<'a> {
             suspensions,
             deadline,
             sections,
-            kind: Kind {
-                jobs,
-                layers: [Some(Layer::Delayed(delay)), Some(Layer::Slowed(clock))],
-            },
+            kind: Kind { jobs, layers: [Some(Layer::Delayed(delay)), Some(Layer::Slowed(clock))] },
         })
     }
 }

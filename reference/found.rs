@@ -24,12 +24,7 @@ pub type Judge = fn(&[Row]) -> Judged;
 impl Found {
     /// The line of the row, with this between two fields.
     pub fn line(&self, mark: char) -> String {
-        let Found {
-            number,
-            bound,
-            vector,
-            blocking,
-        } = self;
+        let Found { number, bound, vector, blocking } = self;
         format!("row{mark}{number}{mark}{bound}{mark}{vector}{mark}{blocking}\n")
     }
 }

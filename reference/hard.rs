@@ -10,10 +10,7 @@ use std::ops::RangeInclusive;
 const SHORTEST: u64 = 300;
 
 /// How many times as long as its row says each job of a plan file takes.
-const SLOWER: Factor = Factor {
-    numerator: 5,
-    denominator: 4,
-};
+const SLOWER: Factor = Factor { numerator: 5, denominator: 4 };
 
 impl Random {
     fn between(&mut self, low: f64, high: f64) -> f64 {
@@ -64,19 +61,12 @@ fn jobs(random: &mut Random, period: u64, share: f64) -> (Jobs, u64) {
         let factor = random.between(1.1, 1.6);
         let job = (work / (1.0 + (factor - 1.0) / among as f64)).max(1.0) as u64;
         let heavy = period.min((job as f64 * factor) as u64);
-        let jobs = Jobs::Heavy {
-            job: job as u32,
-            heavy: heavy as u32,
-            among: among as u32,
-            period: period as u32,
-        };
+        let jobs =
+            Jobs::Heavy { job: job as u32, heavy: heavy as u32, among: among as u32, period: period as u32 };
         return (jobs, job);
     }
     let job = work.max(1.0) as u64;
-    let jobs = Jobs::Every {
-        job: job as u32,
-        period: period as u32,
-    };
+    let jobs = Jobs::Every { job: job as u32, period: period as u32 };
     (jobs, job)
 }
 
@@ -88,11 +78,8 @@ fn row(random: &mut Random, priority: usize, period: u64, share: f64, shortest: 
     } else {
         (0, 0)
     };
-    let deadline = if random.chance(0.25) {
-        (period as f64 * random.between(0.9, 1.0)) as u32
-    } else {
-        period as u32
-    };
+    let deadline =
+        if random.chance(0.25) { (period as f64 * random.between(0.9, 1.0)) as u32 } else { period as u32 };
     let mut sections = [0; LOCKS];
     if random.chance(0.5) {
         for _ in 0..random.pick(1..=2) {
@@ -107,10 +94,7 @@ fn row(random: &mut Random, priority: usize, period: u64, share: f64, shortest: 
         suspensions,
         deadline,
         sections,
-        kind: Kind {
-            jobs,
-            layers: [None; 2],
-        },
+        kind: Kind { jobs, layers: [None; 2] },
     }
 }
 
@@ -119,9 +103,8 @@ fn set(random: &mut Random, rows: usize, longest: u64) -> Vec<Row> {
     let periods = periods(random, rows, longest);
     let total = random.between(0.7, 0.95);
     let shares = shares(random, rows, total);
-    let mut set: Vec<_> = (0..rows)
-        .map(|rank| row(random, rows - rank, periods[rank], shares[rank], periods[0]))
-        .collect();
+    let mut set: Vec<_> =
+        (0..rows).map(|rank| row(random, rows - rank, periods[rank], shares[rank], periods[0])).collect();
     for last in (1..rows).rev() {
         set.swap(last, random.pick(0..=last as u64) as usize);
     }
@@ -143,18 +126,8 @@ fn in_file(row: &Row) -> Row {
             let job = faster(job);
             (Jobs::Every { job, period }, period)
         }
-        Jobs::Heavy {
-            job,
-            heavy,
-            among,
-            period,
-        } => {
-            let jobs = Jobs::Heavy {
-                job: faster(job),
-                heavy: faster(heavy),
-                among,
-                period,
-            };
+        Jobs::Heavy { job, heavy, among, period } => {
+            let jobs = Jobs::Heavy { job: faster(job), heavy: faster(heavy), among, period };
             (jobs, period)
         }
     };
@@ -163,10 +136,7 @@ fn in_file(row: &Row) -> Row {
     Row {
         deadline: row.deadline.min(period - delay),
         sections: row.sections.map(shorter),
-        kind: Kind {
-            jobs,
-            layers: [Some(Layer::Delayed(delay)), Some(Layer::Slowed(SLOWER))],
-        },
+        kind: Kind { jobs, layers: [Some(Layer::Delayed(delay)), Some(Layer::Slowed(SLOWER))] },
         ..*row
     }
 }
@@ -187,7 +157,7 @@ pub fn files(seed: u64, count: u64, rows: usize, longest: u64) -> String {
     let mut random = Random::new(seed);
     let mut text = String::new();
     for _ in 0..count {
-        text += &format!("clock\t{}\t{}\n", SLOWER.numerator, SLOWER.denominator);
+        text += &SLOWER.line();
         let set = set(&mut random, rows, longest);
         text.extend(set.iter().map(|row| in_file(row).tab_line("row")));
     }

@@ -22,16 +22,8 @@ pub struct Factor {
 /// The jobs of a task.
 #[derive(Clone, Copy, Debug)]
 pub enum Jobs {
-    Every {
-        job: u32,
-        period: u32,
-    },
-    Heavy {
-        job: u32,
-        heavy: u32,
-        among: u32,
-        period: u32,
-    },
+    Every { job: u32, period: u32 },
+    Heavy { job: u32, heavy: u32, among: u32, period: u32 },
 }
 
 /// What is made of a kind.
@@ -58,13 +50,15 @@ pub struct Pattern {
 }
 
 impl Factor {
+    /// The clock line.
+    pub fn line(self) -> String {
+        format!("clock\t{}\t{}\n", self.numerator, self.denominator)
+    }
+
     /// The numbers that count: the numerator, and the denominator.
     pub fn counted(self) -> (u64, u64) {
         let denominator = u64::from(self.denominator).clamp(1, 1000);
-        (
-            u64::from(self.numerator).clamp(denominator, 1000),
-            denominator,
-        )
+        (u64::from(self.numerator).clamp(denominator, 1000), denominator)
     }
 }
 
@@ -72,18 +66,10 @@ impl Jobs {
     pub fn counted(self) -> Pattern {
         let length = |n: u32| u64::from(n).clamp(1, LONGEST);
         match self {
-            Jobs::Every { job, period } => Pattern {
-                job: length(job),
-                heavy: length(job),
-                among: 1,
-                period: length(period),
-            },
-            Jobs::Heavy {
-                job,
-                heavy,
-                among,
-                period,
-            } => Pattern {
+            Jobs::Every { job, period } => {
+                Pattern { job: length(job), heavy: length(job), among: 1, period: length(period) }
+            }
+            Jobs::Heavy { job, heavy, among, period } => Pattern {
                 job: length(job),
                 heavy: u64::from(heavy).clamp(length(job), LONGEST),
                 among: u64::from(among).clamp(2, 64),
@@ -114,26 +100,20 @@ impl Kind {
 
     /// The factors that count, the inner one first.
     pub fn factors(self) -> impl Iterator<Item = (u64, u64)> {
-        self.layers
-            .into_iter()
-            .flatten()
-            .filter_map(|layer| match layer {
-                Layer::Slowed(factor) => Some(factor.counted()),
-                Layer::Delayed(_) => None,
-            })
+        self.layers.into_iter().flatten().filter_map(|layer| match layer {
+            Layer::Slowed(factor) => Some(factor.counted()),
+            Layer::Delayed(_) => None,
+        })
     }
 
     /// What becomes of the longest job, or of work.
     pub fn slow_up(self, time: u64) -> u64 {
-        self.factors().fold(time.min(CAP), |time, (a, b)| {
-            (time * a).div_ceil(b).min(CAP)
-        })
+        self.factors().fold(time.min(CAP), |time, (a, b)| (time * a).div_ceil(b).min(CAP))
     }
 
     /// What becomes of the shortest job.
     pub fn slow_down(self, time: u64) -> u64 {
-        self.factors()
-            .fold(time, |time, (a, b)| (time * a / b).min(CAP))
+        self.factors().fold(time, |time, (a, b)| (time * a / b).min(CAP))
     }
 
     /// The longest job.
@@ -152,12 +132,7 @@ impl fmt::Display for Jobs {
     fn fmt(&self, f: &mut fmt::Formatter) -> fmt::Result {
         match self {
             Jobs::Every { job, period } => write!(f, "every {job} {period}"),
-            Jobs::Heavy {
-                job,
-                heavy,
-                among,
-                period,
-            } => write!(f, "heavy {job} {heavy} {among} {period}"),
+            Jobs::Heavy { job, heavy, among, period } => write!(f, "heavy {job} {heavy} {among} {period}"),
         }
     }
 }

@@ -1,20 +1,13 @@
 //! Logs of calls: what each line is answered.
 
 use crate::account::Account;
+use crate::answer::Answer;
 use crate::check::{Blame, Check};
 use crate::fields::Fields;
 use crate::found::Judge;
 use crate::kind::Factor;
 use crate::plan_file::MOST_BYTES;
 use crate::row::MOST_ROWS;
-
-/// What is printed for a log, how many lines were read, by which checks some were refused, and whether all were well formed.
-pub struct LogAnswer {
-    pub text: String,
-    pub lines: u64,
-    pub refusals: Vec<Check>,
-    pub is_well_formed: bool,
-}
 
 /// What the next line has to be.
 enum Due {
@@ -25,16 +18,6 @@ enum Due {
     Call(Account, Factor),
     /// nothing: the rest is not looked at
     Nothing,
-}
-
-impl LogAnswer {
-    fn refuse(&mut self, line: usize, blame: Blame) {
-        let check = blame.check();
-        let is_answer = Check::Number <= check && check <= Check::NotKept;
-        self.is_well_formed &= is_answer;
-        self.refusals.push(check);
-        self.text += &blame.text(line);
-    }
 }
 
 /// How many places the table of a table line has.
@@ -50,11 +33,7 @@ fn read_table(fields: &Fields) -> Result<usize, Blame> {
 fn tell_rows(account: &Account) -> String {
     let mut text = String::new();
     for row in account.found() {
-        let state = if account.is_held(row.number) {
-            "held"
-        } else {
-            "kept"
-        };
+        let state = if account.is_held(row.number) { "held" } else { "kept" };
         text += &row.line('\t').replace('\n', &format!("\t{state}\n"));
     }
     text
@@ -92,10 +71,7 @@ fn make_call(account: &mut Account, clock: Factor, fields: &Fields) -> Result<St
         Some(b"bound") => {
             let number = only_number(fields)?;
             let found = account.bound(number)?;
-            Ok(format!(
-                "bound\t{number}\t{}\t{}\n",
-                found.bound, found.vector
-            ))
+            Ok(format!("bound\t{number}\t{}\t{}\n", found.bound, found.vector))
         }
         Some(b"rows") => {
             fields.count(1)?;
@@ -114,14 +90,10 @@ fn text_of(line: &[u8]) -> Result<&[u8], Blame> {
 }
 
 /// What is due behind a line.
-fn answer_line(judge: Judge, answer: &mut LogAnswer, due: Due, number: usize, line: &[u8]) -> Due {
+fn answer_line(judge: Judge, answer: &mut Answer, due: Due, number: usize, line: &[u8]) -> Due {
     let fields = text_of(line).map(Fields::of);
     match due {
-        Due::Table => begin_evening(
-            answer,
-            number,
-            fields.and_then(|fields| read_table(&fields)),
-        ),
+        Due::Table => begin_evening(answer, number, fields.and_then(|fields| read_table(&fields))),
         Due::Clock(places) => match fields.and_then(|fields| fields.clock()) {
             Ok(clock) => Due::Call(Account::new(judge, places), clock),
             Err(blame) => {
@@ -146,7 +118,7 @@ fn answer_line(judge: Judge, answer: &mut LogAnswer, due: Due, number: usize, li
 }
 
 /// What is due behind a table line.
-fn begin_evening(answer: &mut LogAnswer, number: usize, places: Result<usize, Blame>) -> Due {
+fn begin_evening(answer: &mut Answer, number: usize, places: Result<usize, Blame>) -> Due {
     match places {
         Ok(places) => Due::Clock(places),
         Err(blame) => {
@@ -157,19 +129,13 @@ fn begin_evening(answer: &mut LogAnswer, number: usize, places: Result<usize, Bl
 }
 
 /// What is printed for a log.
-pub fn answer(judge: Judge, log: &[u8]) -> LogAnswer {
-    let mut answer = LogAnswer {
-        text: String::new(),
-        lines: 0,
-        refusals: Vec::new(),
-        is_well_formed: true,
-    };
+pub fn answer(judge: Judge, log: &[u8]) -> Answer {
+    let mut answer = Answer::default();
     let mut due = Due::Table;
     for (number, line) in (1..).zip(log.split_inclusive(|byte| *byte == b'\n')) {
         if matches!(due, Due::Nothing) {
             break;
         }
-        answer.lines += 1;
         due = answer_line(judge, &mut answer, due, number, line);
     }
     if matches!(due, Due::Table | Due::Clock(_)) {

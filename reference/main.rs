@@ -3,6 +3,7 @@
 //! for cases that `cases` makes at random. `peer` finds the same quickly, for the benchmark. Times are in ticks of 100 microseconds.
 
 mod account;
+mod answer;
 mod cases;
 mod check;
 mod compare;
@@ -100,8 +101,7 @@ fn judge_of(method: Option<String>) -> Result<Judge, Failure> {
 /// What is printed for all sets on standard input.
 fn answer_sets(judge: Judge) -> Result<String, Failure> {
     let text = io::read_to_string(io::stdin())?;
-    let unreadable =
-        |line| Failure::Differs(format!("line {line}: neither a row, nor 'judge' or 'hold'"));
+    let unreadable = |line| Failure::Differs(format!("line {line}: neither a row, nor 'judge' or 'hold'"));
     set_file::answer_all(judge, &text).map_err(unreadable)
 }
 
@@ -167,8 +167,7 @@ fn run(mut words: impl Iterator<Item = String>) -> Result<String, Failure> {
 }
 
 fn main() -> ExitCode {
-    let ran =
-        run(env::args().skip(1)).and_then(|text| Ok(io::stdout().write_all(text.as_bytes())?));
+    let ran = run(env::args().skip(1)).and_then(|text| Ok(io::stdout().write_all(text.as_bytes())?));
     let (text, status) = match ran {
         Ok(()) => return ExitCode::SUCCESS,
         Err(Failure::Differs(text)) => (text, 1),

@@ -33,19 +33,13 @@ impl Weight {
 
 impl Deal {
     pub fn new(random: &mut Random) -> Deal {
-        Deal {
-            first: random.below(13),
-            step: random.within(1, 12),
-        }
+        Deal { first: random.below(13), step: random.within(1, 12) }
     }
 
     /// The number and the priority of the row at a place, of up to 13 places.
     fn name(self, random: &mut Random, place: u32) -> (u32, u32) {
         let turn = (self.first + place * self.step) % 13;
-        (
-            place * 9 + random.within(1, 9),
-            turn * 10 + random.within(1, 10),
-        )
+        (place * 9 + random.within(1, 9), turn * 10 + random.within(1, 10))
     }
 }
 
@@ -77,20 +71,12 @@ fn some_jobs(random: &mut Random, longest: u32, shortest: u32) -> Jobs {
     if random.one_in(2) {
         return Jobs::Every { job, period };
     }
-    Jobs::Heavy {
-        job,
-        heavy: job + random.below(4),
-        among: random.within(2, 4),
-        period,
-    }
+    Jobs::Heavy { job, heavy: job + random.below(4), among: random.within(2, 4), period }
 }
 
 /// Jobs that take little time.
 fn light_jobs(random: &mut Random) -> Jobs {
-    Jobs::Every {
-        job: 1,
-        period: random.within(30, 40),
-    }
+    Jobs::Every { job: 1, period: random.within(30, 40) }
 }
 
 /// Jobs with numbers out of range, or next to it.
@@ -100,30 +86,19 @@ fn odd_jobs(random: &mut Random) -> Jobs {
     if random.one_in(2) {
         return Jobs::Every { job, period };
     }
-    Jobs::Heavy {
-        job,
-        heavy: random.below(4),
-        among: random.below(4),
-        period,
-    }
+    Jobs::Heavy { job, heavy: random.below(4), among: random.below(4), period }
 }
 
 fn some_factor(random: &mut Random) -> Factor {
     let denominator = random.within(1, 5);
-    Factor {
-        numerator: denominator + random.below(3),
-        denominator,
-    }
+    Factor { numerator: denominator + random.below(3), denominator }
 }
 
 /// A layer, or none. Its numbers may be out of range.
 fn some_layer(random: &mut Random) -> Option<Layer> {
     match random.below(16) {
         0 => Some(Layer::Delayed(random.below(100))),
-        1 => Some(Layer::Slowed(Factor {
-            numerator: random.below(4),
-            denominator: random.below(4),
-        })),
+        1 => Some(Layer::Slowed(Factor { numerator: random.below(4), denominator: random.below(4) })),
         2..=5 => Some(Layer::Delayed(random.below(8))),
         6..=9 => Some(Layer::Slowed(some_factor(random))),
         _ => None,
@@ -131,30 +106,16 @@ fn some_layer(random: &mut Random) -> Option<Layer> {
 }
 
 fn some_kind(random: &mut Random) -> Kind {
-    let jobs = if random.one_in(12) {
-        odd_jobs(random)
-    } else {
-        some_jobs(random, 6, 8)
-    };
-    Kind {
-        jobs,
-        layers: [some_layer(random), some_layer(random)],
-    }
+    let jobs = if random.one_in(12) { odd_jobs(random) } else { some_jobs(random, 6, 8) };
+    Kind { jobs, layers: [some_layer(random), some_layer(random)] }
 }
 
 /// A row that is judged, at whose numbers nothing is checked.
 fn judged_row(random: &mut Random, deal: Deal, place: u32) -> Row {
     let (number, priority) = deal.name(random, place);
-    let (suspension, suspensions) = if random.one_in(12) {
-        (random.below(3), random.below(3))
-    } else {
-        some_suspension(random)
-    };
-    let deadline = if random.one_in(8) {
-        random.below(20)
-    } else {
-        random.within(20, 60)
-    };
+    let (suspension, suspensions) =
+        if random.one_in(12) { (random.below(3), random.below(3)) } else { some_suspension(random) };
+    let deadline = if random.one_in(8) { random.below(20) } else { random.within(20, 60) };
     Row {
         number,
         priority,
@@ -170,9 +131,7 @@ fn judged_row(random: &mut Random, deal: Deal, place: u32) -> Row {
 pub fn judged_set(random: &mut Random) -> Vec<Row> {
     let count = random.within(1, 4);
     let deal = Deal::new(random);
-    (0..count)
-        .map(|place| judged_row(random, deal, place))
-        .collect()
+    (0..count).map(|place| judged_row(random, deal, place)).collect()
 }
 
 /// Sound rows of all kinds, of which the last may have a fault.
@@ -187,9 +146,7 @@ pub fn sound_set(random: &mut Random) -> Vec<Row> {
         })
         .collect();
     if random.one_in(3) {
-        rows.last_mut()
-            .into_iter()
-            .for_each(|row| spoil(random, row));
+        rows.last_mut().into_iter().for_each(|row| spoil(random, row));
     }
     rows
 }
@@ -201,22 +158,14 @@ pub fn light_set(random: &mut Random) -> Vec<Row> {
     (0..count)
         .map(|place| {
             let name = deal.name(random, place);
-            let kind = Kind {
-                jobs: light_jobs(random),
-                layers: [None; 2],
-            };
+            let kind = Kind { jobs: light_jobs(random), layers: [None; 2] };
             sound_row(random, Weight::Light, name, kind)
         })
         .collect()
 }
 
 /// A row that passes all checks but perhaps those of its name, and that for lateness.
-fn sound_row(
-    random: &mut Random,
-    weight: Weight,
-    (number, priority): (u32, u32),
-    kind: Kind,
-) -> Row {
+fn sound_row(random: &mut Random, weight: Weight, (number, priority): (u32, u32), kind: Kind) -> Row {
     let (suspension, suspensions) = match weight {
         Weight::Light => (0, 0),
         Weight::Usual => some_suspension(random),
@@ -241,10 +190,7 @@ pub fn some_clock(random: &mut Random) -> Factor {
             numerator: random.choice(&[0, 1, 2, 1000, 1001]),
             denominator: random.choice(&[0, 1, 2, 999, 1001]),
         },
-        1..=20 => Factor {
-            numerator: 1,
-            denominator: 1,
-        },
+        1..=20 => Factor { numerator: 1, denominator: 1 },
         _ => some_factor(random),
     }
 }
@@ -253,17 +199,11 @@ pub fn some_clock(random: &mut Random) -> Factor {
 fn clocked_kind(random: &mut Random, weight: Weight, clock: Factor) -> Kind {
     let jobs = match weight {
         Weight::Light => light_jobs(random),
-        Weight::Usual if random.one_in(2000) => Jobs::Every {
-            job: random.within(1, 6),
-            period: 1_000_000,
-        },
+        Weight::Usual if random.one_in(2000) => Jobs::Every { job: random.within(1, 6), period: 1_000_000 },
         Weight::Usual => some_jobs(random, 3, 20),
     };
     let delay = if random.one_in(3) { random.below(8) } else { 0 };
-    Kind {
-        jobs,
-        layers: [Some(Layer::Delayed(delay)), Some(Layer::Slowed(clock))],
-    }
+    Kind { jobs, layers: [Some(Layer::Delayed(delay)), Some(Layer::Slowed(clock))] }
 }
 
 /// A row of a plan file.

@@ -41,12 +41,7 @@ impl Demand {
     }
 
     fn work(&self, window: u64) -> u64 {
-        let Pattern {
-            job,
-            heavy,
-            among,
-            period,
-        } = self.pattern;
+        let Pattern { job, heavy, among, period } = self.pattern;
         let jobs = (window + self.delay).min(LONGEST_WINDOW).div_ceil(period);
         let mut work = jobs * job;
         if job < heavy {
@@ -133,23 +128,10 @@ fn judge_by(search: Search, rows: &[Row]) -> Judged {
     for (rank, row) in ranked.iter().enumerate() {
         let blocking = blocking(&ceilings, row, &ranked[rank + 1..]);
         let wait = u64::from(row.suspension) + blocking;
-        let case = Case {
-            need: wait + row.kind.own(),
-            deadline: u64::from(row.deadline),
-            higher: &higher,
-        };
+        let case = Case { need: wait + row.kind.own(), deadline: u64::from(row.deadline), higher: &higher };
         let (bound, vector) = search(&case).ok_or(Late(row.number))?;
-        found.push(Found {
-            number: row.number,
-            bound: bound as u32,
-            vector: vector as u32,
-            blocking,
-        });
-        higher.push(Done {
-            demand: Demand::new(row.kind),
-            wait,
-            jitter: bound - row.kind.least(),
-        });
+        found.push(Found { number: row.number, bound: bound as u32, vector: vector as u32, blocking });
+        higher.push(Done { demand: Demand::new(row.kind), wait, jitter: bound - row.kind.least() });
     }
     Ok(found)
 }

@@ -1,6 +1,7 @@
 //! Plan files: the report, or the line of the refusal.
 
 use crate::account::Account;
+use crate::answer::Answer;
 use crate::check::{Blame, Check};
 use crate::fields::Fields;
 use crate::found::{Found, Judge};
@@ -8,12 +9,6 @@ use crate::row::MOST_ROWS;
 
 /// The most bytes of a plan file, and of a line of a log.
 pub const MOST_BYTES: usize = 4096;
-
-/// What is printed for a file, and what it is refused for.
-pub struct FileAnswer {
-    pub text: String,
-    pub refusal: Option<Check>,
-}
 
 /// A line, counted from 1, and what is wrong with it; line 0 is the whole file.
 struct Refusal(usize, Blame);
@@ -37,15 +32,11 @@ fn load(judge: Judge, file: &[u8]) -> Result<Vec<Found>, Refusal> {
 }
 
 /// What is printed for a file.
-pub fn answer(judge: Judge, file: &[u8]) -> FileAnswer {
+pub fn answer(judge: Judge, file: &[u8]) -> Answer {
+    let mut answer = Answer::default();
     match load(judge, file) {
-        Ok(found) => FileAnswer {
-            text: found.iter().map(|row| row.line('\t')).collect(),
-            refusal: None,
-        },
-        Err(Refusal(line, blame)) => FileAnswer {
-            text: blame.text(line),
-            refusal: Some(blame.check()),
-        },
+        Ok(found) => answer.text.extend(found.iter().map(|row| row.line('\t'))),
+        Err(Refusal(line, blame)) => answer.refuse(line, blame),
     }
+    answer
 }

@@ -33,11 +33,7 @@ pub struct Ran {
 
 impl From<Output> for Ran {
     fn from(output: Output) -> Ran {
-        Ran {
-            printed: output.stdout,
-            error: output.stderr,
-            status: output.status,
-        }
+        Ran { printed: output.stdout, error: output.stderr, status: output.status }
     }
 }
 
@@ -48,7 +44,7 @@ impl Program {
             Feed::NamedFiles => text.strip_prefix(format!("{place}\n").as_bytes())?,
             Feed::Input | Feed::Files => text,
         };
-        answer.strip_prefix(case.due.as_bytes())
+        answer.strip_prefix(case.due.text.as_bytes())
     }
 
     /// Runs it on some cases, in a folder where their files may stand.
@@ -59,20 +55,13 @@ impl Program {
 
     fn try_to_run(&self, folder: &Path, cases: &[Case]) -> io::Result<Ran> {
         let mut command = Command::new(&self.path);
-        command
-            .current_dir(folder)
-            .stdout(Stdio::piped())
-            .stderr(Stdio::piped());
+        command.current_dir(folder).stdout(Stdio::piped()).stderr(Stdio::piped());
         if self.feed == Feed::Input {
             let mut child = command.stdin(Stdio::piped()).spawn()?;
             let mut input = child.stdin.take().expect("standard input is a pipe");
             return thread::scope(|scope| {
                 // a program that ends early is seen by what it printed
-                scope.spawn(move || {
-                    cases
-                        .iter()
-                        .try_for_each(|case| input.write_all(&case.input))
-                });
+                scope.spawn(move || cases.iter().try_for_each(|case| input.write_all(&case.input)));
                 child.wait_with_output().map(Ran::from)
             });
         }

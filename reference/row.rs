@@ -22,13 +22,7 @@ pub struct Row {
 
 impl Row {
     fn numbers(&self) -> [u32; 5] {
-        [
-            self.number,
-            self.priority,
-            self.suspension,
-            self.suspensions,
-            self.deadline,
-        ]
+        [self.number, self.priority, self.suspension, self.suspensions, self.deadline]
     }
 
     /// The line of a set, with all layers of the kind, the outer one first.

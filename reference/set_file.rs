@@ -2,6 +2,7 @@
 //! blanks stand between the fields.
 
 use crate::account::Account;
+use crate::answer::Answer;
 use crate::check::{Blame, Check};
 use crate::found::{Judge, Late};
 use crate::kind::{Factor, Jobs, Kind, Layer};
@@ -18,12 +19,6 @@ pub enum Question {
     Hold(u32),
 }
 
-/// What is printed for a set, and the check that speaks against it.
-pub struct SetAnswer {
-    pub text: String,
-    pub refusal: Option<Check>,
-}
-
 impl Question {
     pub fn line(self) -> String {
         match self {
@@ -33,58 +28,44 @@ impl Question {
     }
 }
 
-fn judge_set(judge: Judge, rows: &[Row]) -> SetAnswer {
-    let (text, refusal) = if rows.len() > MOST_ROWS {
-        (String::from("too many\n"), Some(Check::NoPlace))
-    } else {
-        match judge(rows) {
-            Ok(found) => (found.iter().map(|row| row.line(' ')).collect(), None),
-            Err(Late(number)) => (format!("late {number}\n"), Some(Check::Late)),
-        }
-    };
-    SetAnswer { text, refusal }
+/// What is said of rows that are judged, or the check that speaks against them.
+fn judge_set(judge: Judge, rows: &[Row]) -> Result<String, Blame> {
+    if rows.len() > MOST_ROWS {
+        return Err(Blame::Line(Check::NoPlace));
+    }
+    let found = judge(rows).map_err(|Late(number)| Blame::Late(number))?;
+    Ok(found.iter().map(|row| row.line(' ')).collect())
 }
 
 /// Holds the last row so many times, over a table that keeps the others, and releases it each time.
-fn hold_last(judge: Judge, rows: &[Row], times: u32) -> Result<(), Blame> {
-    let Some((last, others)) = rows.split_last() else {
-        return Ok(());
-    };
+fn hold_last(judge: Judge, rows: &[Row], times: u32) -> Result<String, Blame> {
     let mut account = Account::new(judge, MOST_ROWS);
-    for row in others {
-        account.hold(*row)?;
-        account.keep(row.number)?;
+    if let Some((last, others)) = rows.split_last() {
+        for row in others {
+            account.hold(*row)?;
+            account.keep(row.number)?;
+        }
+        for _ in 0..times {
+            account.hold(*last)?;
+            account.release(last.number)?;
+        }
     }
-    for _ in 0..times {
-        account.hold(*last)?;
-        account.release(last.number)?;
-    }
-    Ok(())
-}
-
-fn hold_set(judge: Judge, rows: &[Row], times: u32) -> SetAnswer {
-    let held = hold_last(judge, rows, times);
-    let text = match held {
-        Ok(()) => format!("held {times}\n"),
-        Err(Blame::Late(number)) => format!("late {number}\n"),
-        Err(blame) => format!("refused {}\n", blame.check() as u32),
-    };
-    SetAnswer {
-        text,
-        refusal: held.err().map(Blame::check),
-    }
+    Ok(format!("held {times}\n"))
 }
 
 /// What is printed for a set.
-pub fn answer(judge: Judge, rows: &[Row], question: Question) -> SetAnswer {
-    let SetAnswer { text, refusal } = match question {
+pub fn answer(judge: Judge, rows: &[Row], question: Question) -> Answer {
+    let answered = match question {
         Question::Judge => judge_set(judge, rows),
-        Question::Hold(times) => hold_set(judge, rows, times),
+        Question::Hold(times) => hold_last(judge, rows, times),
     };
-    SetAnswer {
-        text: text + "end\n",
-        refusal,
-    }
+    let refusals = answered.as_ref().err().map(|blame| blame.check());
+    let text = answered.unwrap_or_else(|blame| match (question, blame) {
+        (_, Blame::Late(number)) => format!("late {number}\n"),
+        (Question::Judge, _) => String::from("too many\n"),
+        (Question::Hold(_), _) => format!("refused {}\n", blame.check() as u32),
+    });
+    Answer { text: text + "end\n", refusals: refusals.into_iter().collect() }
 }
 
 /// A line: a row, or what is asked of the rows before it.
@@ -119,10 +100,7 @@ impl Words<'_> {
             "slowed" => {
                 self.0.next();
                 let [numerator, denominator] = self.numbers()?;
-                Layer::Slowed(Factor {
-                    numerator,
-                    denominator,
-                })
+                Layer::Slowed(Factor { numerator, denominator })
             }
             _ => return Some(None),
         };
@@ -137,12 +115,7 @@ impl Words<'_> {
             }
             "heavy" => {
                 let [job, heavy, among, period] = self.numbers()?;
-                Some(Jobs::Heavy {
-                    job,
-                    heavy,
-                    among,
-                    period,
-                })
+                Some(Jobs::Heavy { job, heavy, among, period })
             }
             _ => None,
         }
