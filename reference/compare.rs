@@ -3,7 +3,7 @@
 use crate::cases::{some_file, some_log, some_set};
 use crate::comparison::{Comparison, Difference, Halt, Seen};
 use crate::options::Options;
-use crate::program::{Feed, Program};
+use crate::program::{about, Feed, Program};
 use std::ops::Range;
 use std::path::Path;
 use std::sync::{Mutex, MutexGuard};
@@ -139,9 +139,10 @@ fn comparisons(options: &Options, programs: &Path) -> [Comparison; 3] {
 
 /// Makes all comparisons, up to the first case that differs.
 pub fn compare_all(options: &Options) -> Result<(), Halt> {
+    let named = &options.programs;
+    let programs = fs::canonicalize(named).map_err(|error| about(named, error))?;
     let folder = env::temp_dir().join(format!("reference-{}", process::id()));
     fs::create_dir_all(&folder)?;
-    let programs = fs::canonicalize(&options.programs)?;
     let compared = comparisons(options, &programs)
         .iter()
         .filter(|comparison| comparison.count > 0)

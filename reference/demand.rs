@@ -6,6 +6,8 @@ use crate::kind::{Kind, Pattern, CAP, LONGEST_WINDOW};
 pub struct Demand {
     kind: Kind,
     delays: [u64; 2],
+    /// no window is asked for that is longer, with the delays
+    end: u64,
     /// when jobs are released, if the first is released when the window begins
     releases: Vec<u64>,
     /// the most that 0, 1, 2, .. jobs in a row can take
@@ -57,7 +59,7 @@ impl Demand {
             totals.push(runs.longest());
             release += pattern.period;
         }
-        Demand { kind, delays, releases, totals, own: kind.own(), least: kind.least() }
+        Demand { kind, delays, end, releases, totals, own: kind.own(), least: kind.least() }
     }
 
     /// The most work in a window. Jobs that come late stand in a window that is longer by the delay.
@@ -67,6 +69,7 @@ impl Demand {
             .iter()
             .rev()
             .fold(window.min(LONGEST_WINDOW), |window, delay| (window + delay).min(LONGEST_WINDOW));
+        assert!(window <= self.end, "asked about a longer window than was said");
         let jobs = self.releases.partition_point(|release| *release < window);
         self.kind.slow_up(self.totals[jobs])
     }

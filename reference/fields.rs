@@ -90,13 +90,8 @@ impl<'a> Fields<'a> {
         self.count(due)?;
         let [number, priority, suspension, suspensions, deadline, delay] = self.numbers(2)?;
         let sections = self.numbers(8)?;
-        let jobs = if word == b"every" {
-            let [job, period] = self.numbers(17)?;
-            Jobs::Every { job, period }
-        } else {
-            let [job, heavy, among, period] = self.numbers(17)?;
-            Jobs::Heavy { job, heavy, among, period }
-        };
+        let numbers = (17..=due).map(|field| self.number(field)).collect::<Result<Vec<u32>, Blame>>()?;
+        let jobs = Jobs::of(word, &numbers).ok_or(Check::Count)?;
         check_jobs(jobs, delay)?;
         Ok(Row {
             number,

@@ -63,6 +63,16 @@ impl Factor {
 }
 
 impl Jobs {
+    /// The jobs that a word and the numbers behind it say.
+    pub fn of(word: &[u8], numbers: &[u32]) -> Option<Jobs> {
+        match (word, numbers) {
+            (b"every", &[job, period]) => Some(Jobs::Every { job, period }),
+            (b"heavy", &[job, heavy, among, period]) => Some(Jobs::Heavy { job, heavy, among, period }),
+            _ => None,
+        }
+    }
+
+    /// The numbers that count.
     pub fn counted(self) -> Pattern {
         let length = |n: u32| u64::from(n).clamp(1, LONGEST);
         match self {

@@ -29,6 +29,7 @@ use compare::compare_all;
 use comparison::{Difference, Halt};
 use found::Judge;
 use options::Options;
+use program::about;
 use std::env;
 use std::fs;
 use std::io::{self, Read, Write};
@@ -65,25 +66,34 @@ Exit status: 0; 1 at a difference, where a check never came up among many cases,
 be read; 2 where a file or a program fails, or for arguments that are not understood.
 ";
 
-/// Why the program ends with another status than 0.
-enum Failure {
-    /// what is told
-    Differs(String),
-    Failed(String),
-    Usage,
+/// Why the program does not end with status 0, and with which it ends.
+struct Failure {
+    status: u8,
+    text: String,
+}
+
+impl Failure {
+    /// A difference, or what comes to the same.
+    fn of_answers(text: String) -> Failure {
+        Failure { status: 1, text }
+    }
+
+    fn of_arguments() -> Failure {
+        Failure { status: 2, text: String::from("reference --help says what there is") }
+    }
 }
 
 impl From<io::Error> for Failure {
     fn from(error: io::Error) -> Failure {
-        Failure::Failed(error.to_string())
+        Failure { status: 2, text: error.to_string() }
     }
 }
 
 impl From<Halt> for Failure {
     fn from(halt: Halt) -> Failure {
         match halt {
-            Halt::Differs(Difference { text, .. }) => Failure::Differs(text),
-            Halt::Missing(check) => Failure::Differs(format!("check {check} never came up")),
+            Halt::Differs(Difference { text, .. }) => Failure::of_answers(text),
+            Halt::Missing(check) => Failure::of_answers(format!("check {check} never came up")),
             Halt::Failed(error) => Failure::from(error),
         }
     }
@@ -94,14 +104,14 @@ fn judge_of(method: Option<String>) -> Result<Judge, Failure> {
         Some("brute") => Ok(scan::judge),
         Some("peer") => Ok(peer::judge),
         Some("scan") => Ok(peer::scan),
-        _ => Err(Failure::Usage),
+        _ => Err(Failure::of_arguments()),
     }
 }
 
 /// What is printed for all sets on standard input.
 fn answer_sets(judge: Judge) -> Result<String, Failure> {
     let text = io::read_to_string(io::stdin())?;
-    let unreadable = |line| Failure::Differs(format!("line {line}: neither a row, nor 'judge' or 'hold'"));
+    let unreadable = |line| Failure::of_answers(format!("line {line}: neither a row, nor 'judge' or 'hold'"));
     set_file::answer_all(judge, &text).map_err(unreadable)
 }
 
@@ -119,7 +129,7 @@ fn answer_files(
         return Ok(answer(&file));
     }
     for name in names {
-        let file = fs::read(&name).map_err(|error| Failure::Failed(format!("{name}: {error}")))?;
+        let file = fs::read(&name).map_err(|error| about(name.as_ref(), error))?;
         if named {
             text += &format!("{name}\n");
         }
@@ -139,14 +149,14 @@ fn make_hard(
         Some(&[seed, count, rows @ 1..=64, longest @ 1_000..=1_000_000]) => {
             Ok(make(seed, count, rows as usize, longest))
         }
-        _ => Err(Failure::Usage),
+        _ => Err(Failure::of_arguments()),
     }
 }
 
 fn run(mut words: impl Iterator<Item = String>) -> Result<String, Failure> {
     match words.next().as_deref() {
         Some("compare") => {
-            let options = Options::read(words).ok_or(Failure::Usage)?;
+            let options = Options::read(words).ok_or_else(Failure::of_arguments)?;
             compare_all(&options)?;
             Ok(String::new())
         }
@@ -162,18 +172,17 @@ fn run(mut words: impl Iterator<Item = String>) -> Result<String, Failure> {
         Some("hard-sets") => make_hard(words, hard::sets),
         Some("hard-files") => make_hard(words, hard::files),
         Some("--help") => Ok(String::from(HELP)),
-        _ => Err(Failure::Usage),
+        _ => Err(Failure::of_arguments()),
     }
 }
 
 fn main() -> ExitCode {
-    let ran = run(env::args().skip(1)).and_then(|text| Ok(io::stdout().write_all(text.as_bytes())?));
-    let (text, status) = match ran {
-        Ok(()) => return ExitCode::SUCCESS,
-        Err(Failure::Differs(text)) => (text, 1),
-        Err(Failure::Failed(text)) => (text, 2),
-        Err(Failure::Usage) => (String::from("reference --help says what there is"), 2),
-    };
-    eprintln!("reference: {text}");
-    ExitCode::from(status)
+    let printed = run(env::args().skip(1)).and_then(|text| Ok(io::stdout().write_all(text.as_bytes())?));
+    match printed {
+        Ok(()) => ExitCode::SUCCESS,
+        Err(Failure { status, text }) => {
+            eprintln!("reference: {text}");
+            ExitCode::from(status)
+        }
+    }
 }

@@ -31,6 +31,11 @@ pub struct Ran {
     pub status: ExitStatus,
 }
 
+/// An error with the name of what it is about.
+pub fn about(path: &Path, error: io::Error) -> io::Error {
+    io::Error::other(format!("{}: {error}", path.display()))
+}
+
 impl From<Output> for Ran {
     fn from(output: Output) -> Ran {
         Ran { printed: output.stdout, error: output.stderr, status: output.status }
@@ -49,8 +54,7 @@ impl Program {
 
     /// Runs it on some cases, in a folder where their files may stand.
     pub fn run(&self, folder: &Path, cases: &[Case]) -> io::Result<Ran> {
-        let name_program = |error| io::Error::other(format!("{}: {error}", self.path.display()));
-        self.try_to_run(folder, cases).map_err(name_program)
+        self.try_to_run(folder, cases).map_err(|error| about(&self.path, error))
     }
 
     fn try_to_run(&self, folder: &Path, cases: &[Case]) -> io::Result<Ran> {

@@ -108,17 +108,9 @@ impl Words<'_> {
     }
 
     fn jobs(&mut self) -> Option<Jobs> {
-        match self.0.next()? {
-            "every" => {
-                let [job, period] = self.numbers()?;
-                Some(Jobs::Every { job, period })
-            }
-            "heavy" => {
-                let [job, heavy, among, period] = self.numbers()?;
-                Some(Jobs::Heavy { job, heavy, among, period })
-            }
-            _ => None,
-        }
+        let word = self.0.next()?;
+        let numbers: Vec<u32> = self.0.by_ref().map(|word| word.parse().ok()).collect::<Option<_>>()?;
+        Jobs::of(word.as_bytes(), &numbers)
     }
 
     fn row(&mut self) -> Option<Row> {
