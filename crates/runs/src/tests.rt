@@ -1,7 +1,9 @@
-//! A worked example of each public call, run on the code.
+//! A worked example of each public call, two tables side by side, and row memory that was in use before, run on the code.
 use super::*;
 use analysis::{Row, Task};
 use demand::Every;
+use std::alloc::{AllocError, Global};
+use std::process::Abort;
 use std::test::Fail;
 use table::{BoundRefusal, HoldRefusal, State, WithdrawRefusal};
 
@@ -55,6 +57,64 @@ fn with_section(number: u32, length: u32) -> Task<Every> {
 
 fn hold(table: u8, row: u32) -> HoldId {
     HoldId { table, row }
+}
+
+// What is told of a desk with rows of the numbers 1 to 3: the room, how each row stands, its bound and vector, and the holds in
+// hand, in their order.
+#[derive(PartialEq, Eq, Debug, Drop)]
+struct Standing {
+    room: usize,
+    states: [State; 3],
+    bounds: [Result<(u32, u32), BoundRefusal>; 3],
+    holds: Vec<HoldId>,
+}
+
+fn standing_of(heap: Global, desk: &Desk<'_, Every>) -> Result<Standing, AllocError> {
+    let table = desk.table();
+    Ok(Standing {
+        room: table.room(),
+        states: [1, 2, 3].map(|number| table.state_of(number)),
+        bounds: [1, 2, 3].map(|number| table.bound(number)),
+        holds: desk
+            .holds()
+            .iter()
+            .map(|own| hold(own.table(), own.row()))
+            .collect(heap)?,
+    })
+}
+
+// A desk at which rows of these numbers are held, one after the other.
+fn with_held<'a>(
+    heap: Global,
+    number: u8,
+    places: &'a mut [Option<Task<Every>>],
+    rows: [u32; 3],
+) -> Result<Desk<'a, Every>, Fail> {
+    let mut desk = Desk::new(heap, number, places);
+    for row in rows {
+        desk.call(heap, Call::Hold(task(row)))?;
+    }
+    Ok(desk)
+}
+
+// A hold in hand at one desk is handed to the other, to be kept and then to be released. It is refused both times, and both
+// desks stand as they stood.
+fn hand_over(
+    rt: &impl Abort,
+    heap: Global,
+    id: HoldId,
+    from: &mut Desk<'_, Every>,
+    to: &mut Desk<'_, Every>,
+) -> Result<(), Fail> {
+    let before = (standing_of(heap, from)?, standing_of(heap, to)?);
+    let calls = [Call::Keep(id), Call::Release(id)];
+    let due = [Reply::Keep(Err(NotHeld)), Reply::Release(Err(NotHeld))];
+    for (call, due) in Vec::from_array(heap, calls)?.into_iter().zip(due) {
+        let ran = to.run_beside(heap, Vec::from_array(heap, [call])?, from)?;
+        assert_eq!(rt; ran.replies.as_slice(), [due].as_slice());
+        assert_eq!(rt; (standing_of(heap, from)?, standing_of(heap, to)?), before);
+    }
+    Ok(())
 }
 
 // Every kind of answer comes up in one list, on two places.
@@ -170,6 +230,82 @@ fn a_hold_of_a_table_of_the_same_number(rt: HostRuntime) -> Result<(), Fail> {
     let refused = desk.run_beside(heap, calls, &mut other);
     assert_eq!(rt; refused.map(|_| ()), Err(RunRefusal::OwnHold));
     assert_eq!(rt; (desk.table().room(), other.holds().len()), (1, 1));
+    Ok(())
+}
+
+// Two tables hold rows of the same numbers. A hold of one is nothing to the other, and is spent where it came from.
+#[test]
+fn holds_of_two_tables(rt: HostRuntime) -> Result<(), Fail> {
+    let heap = rt.alloc();
+    let mut places = [EMPTY; 4];
+    let mut desk = with_held(heap, 1, &mut places, [1, 2, 3])?;
+    let mut others = [EMPTY; 3];
+    let mut other = with_held(heap, 2, &mut others, [3, 2, 1])?;
+    assert_eq!(rt;
+        standing_of(heap, &other)?.holds.as_slice(),
+        [hold(2, 3), hold(2, 2), hold(2, 1)].as_slice()
+    );
+    hand_over(&rt, heap, hold(1, 2), &mut desk, &mut other)?;
+    hand_over(&rt, heap, hold(2, 2), &mut other, &mut desk)?;
+    for number in [2, 1, 3] {
+        let kept = desk.call(heap, Call::Keep(hold(1, number)))?;
+        let released = other.call(heap, Call::Release(hold(2, number)))?;
+        assert_eq!(rt;
+            (kept, released),
+            (Reply::Keep(Ok(())), Reply::Release(Ok(())))
+        );
+        assert_eq!(rt;
+            (
+                desk.table().state_of(number),
+                other.table().state_of(number)
+            ),
+            (State::Kept(number), State::Free)
+        );
+    }
+    assert_eq!(rt; (desk.table().room(), other.table().room()), (1, 3));
+    assert_eq!(rt; (desk.holds().len(), other.holds().len()), (0, 0));
+    Ok(())
+}
+
+// Fourteen strangers stand in the row memory. The first twelve places are the table's, which begins empty; those behind them
+// are not touched.
+#[test]
+fn strangers_in_the_row_memory(rt: HostRuntime) -> Result<(), Fail> {
+    let heap = rt.alloc();
+    let numbers = [1, 2, 3, 4, 5, 6, 7, 8, 9, 10, 11, 12, 13, 14];
+    let strangers = numbers.map(|number| Some(task(number)));
+    let mut places = strangers;
+    let mut desk = Desk::new(heap, 5, &mut places);
+    assert_eq!(rt; (desk.table().room(), desk.answers().rows().len()), (12, 0));
+    for number in numbers {
+        assert_eq!(rt; desk.table().state_of(number), State::Free);
+    }
+    let calls = [
+        Call::Hold(task(14)),
+        Call::Hold(task(2)),
+        Call::Hold(task(3)),
+        Call::Keep(hold(5, 14)),
+        Call::Release(hold(5, 2)),
+    ];
+    let ran = desk.run(heap, Vec::from_array(heap, calls)?)?;
+    let due = [
+        Reply::Hold(Ok(())),
+        Reply::Hold(Ok(())),
+        Reply::Hold(Ok(())),
+        Reply::Keep(Ok(())),
+        Reply::Release(Ok(())),
+    ];
+    assert_eq!(rt; ran.replies.as_slice(), due.as_slice());
+    assert_eq!(rt; (desk.table().room(), ran.answers.rows().len()), (10, 2));
+    desk.close();
+    let (used, behind) = places.split_at(12);
+    let left: Vec<u32> = used
+        .iter()
+        .flatten()
+        .map(|task| task.row.number)
+        .collect(heap)?;
+    assert_eq!(rt; left.as_slice(), [14].as_slice());
+    assert_eq!(rt; behind, &strangers[12..]);
     Ok(())
 }
 
