@@ -1,12 +1,9 @@
 //! The lines of the input: a row, or what is asked of the rows before it. Fields stand one blank apart.
+use super::kinds::{Demand, FromFields};
 use analysis::{LOCKS, Row, Task};
-use demand::{Either, Every, Heavy, Left, Right};
 use std::fmt;
 use std::num::ParseIntError;
 use std::str::{FromStr, Split};
-
-// The kinds of demand that a row can have.
-pub(crate) type Demand = Either<Every, Heavy>;
 
 // What is asked of a set of rows.
 #[derive(Clone, Copy)]
@@ -38,7 +35,9 @@ impl fmt::Display for LineError {
     fn fmt<W: fmt::Write>(&self, f: &mut fmt::Formatter<W>) -> fmt::Result {
         match self {
             LineError::Word => f.write_str("neither a row, nor 'judge' or 'hold'"),
-            LineError::Kind => f.write_str("a row is neither 'every' nor 'heavy'"),
+            LineError::Kind => f.write_str(
+                "a row is neither 'every' nor 'heavy', under at most two of 'delayed' and 'slowed'",
+            ),
             LineError::Missing => f.write_str("a number is missing"),
             LineError::Number(error) => write!(f, "{error}"),
             LineError::TooMany => f.write_str("there are too many fields"),
@@ -66,11 +65,7 @@ impl FromStr for Line {
 
 fn task(fields: &mut Split<'_, char>) -> Result<Task<Demand>, LineError> {
     let row = row(fields)?;
-    let kind = match fields.next() {
-        Some("every") => Left(every(fields)?),
-        Some("heavy") => Right(heavy(fields)?),
-        _ => return Err(LineError::Kind),
-    };
+    let kind = Demand::from_fields(fields.next(), fields)?;
     Ok(Task { row, kind })
 }
 
@@ -94,23 +89,7 @@ fn sections(fields: &mut Split<'_, char>) -> Result<[u32; LOCKS], LineError> {
     Ok(sections)
 }
 
-fn every(fields: &mut Split<'_, char>) -> Result<Every, LineError> {
-    Ok(Every {
-        job: number(fields)?,
-        period: number(fields)?,
-    })
-}
-
-fn heavy(fields: &mut Split<'_, char>) -> Result<Heavy, LineError> {
-    Ok(Heavy {
-        job: number(fields)?,
-        heavy: number(fields)?,
-        among: number(fields)?,
-        period: number(fields)?,
-    })
-}
-
-fn number(fields: &mut Split<'_, char>) -> Result<u32, LineError> {
+pub(crate) fn number(fields: &mut Split<'_, char>) -> Result<u32, LineError> {
     let field = fields.next().ok_or(LineError::Missing)?;
     field.parse::<u32>().map_err(LineError::Number)
 }

@@ -1,21 +1,25 @@
 //! Judges sets of rows from standard input, or holds their last row, and prints what is found for each. It is for the benchmark:
-//! a set costs what its judgement costs, and little else. `line` has the lines of the input. Times are in ticks of 100
-//! microseconds. Begin with `run`.
+//! a set costs what its judgement costs, and little else. `line` has the lines of the input, and `kinds` the kinds of their
+//! rows. Times are in ticks of 100 microseconds. Begin with `run`.
 #![tactic(auto)]
 
 ghost use Rattle.std.specs.Prelude.{◌≡◌, ◌++◌, string_bytes, OnOk};
 ghost use Rattle.judge_sets.specs.Lines.{answer_line};
 
 mod holding;
+mod kinds;
 mod line;
+mod set;
 
 use analysis::{Answer, JudgeRefusal, Task, judge};
 use anyhow::anyhow;
+use demand::Kind;
 use holding::hold_last;
-use line::{Demand, Line, Question};
-use std::alloc::AllocError;
+use line::{Line, Question};
+use set::Set;
+use std::alloc::{AllocError, Global};
 use std::io::{BufRead, BufReader};
-use table::HoldRefusal;
+use table::{HoldRefusal, MOST_ROWS};
 
 // Appends the line of one answer.
 fn write_answer(text: &mut String, answer: &Answer) -> Result<(), AllocError>
@@ -30,8 +34,8 @@ fn write_answer(text: &mut String, answer: &Answer) -> Result<(), AllocError>
 }
 
 // Appends what is found for one set.
-fn write_set(text: &mut String, places: &[Option<Task<Demand>>]) -> Result<(), AllocError> {
-    match judge(places, &None) {
+fn write_set<K: Kind>(text: &mut String, set: &[Option<Task<K>>]) -> Result<(), AllocError> {
+    match judge(set, &None) {
         Ok(answers) => {
             for answer in answers.rows() {
                 write_answer(text, answer)?;
@@ -44,17 +48,32 @@ fn write_set(text: &mut String, places: &[Option<Task<Demand>>]) -> Result<(), A
 }
 
 // Appends what comes of holding the last row of one set.
-fn write_holds(
+fn write_holds<K: Kind + Copy + Drop>(
+    heap: Global,
     text: &mut String,
-    places: &[Option<Task<Demand>>],
+    set: &[Option<Task<K>>],
     times: u32,
 ) -> Result<(), AllocError> {
-    match hold_last(places, times) {
+    let mut places = vec![in heap; None; MOST_ROWS]?;
+    match hold_last(set, times, places.as_mut_slice()) {
         Ok(()) => writeln!(text, "held {times}")?,
         Err(HoldRefusal::Late(number)) => writeln!(text, "late {number}")?,
         Err(refusal) => writeln!(text, "refused {}", refusal.number())?,
     }
     writeln!(text, "end")
+}
+
+// Appends what is asked of one set.
+fn write_found<K: Kind + Copy + Drop>(
+    heap: Global,
+    text: &mut String,
+    set: &[Option<Task<K>>],
+    question: Question,
+) -> Result<(), AllocError> {
+    match question {
+        Question::Judge => write_set(text, set),
+        Question::Hold(times) => write_holds(heap, text, set, times),
+    }
 }
 
 // The line at an index of the input.
@@ -66,23 +85,24 @@ fn line_at(index: usize, text: &str) -> anyhow::Result<Line> {
 
 fn run(rt: &HostRuntime) -> anyhow::Result<()> {
     let heap = rt.alloc();
-    let mut places = Vec::new(heap);
+    let mut set = Set::new(heap);
     let lines = BufReader::new(heap, rt.stdin())?.lines(heap);
     for (index, text) in lines.enumerate() {
         match line_at(index, text?.as_str())? {
-            Line::Row(task) => places.push(Some(task))?,
+            Line::Row(task) => set.push(task)?,
             Line::Ask(question) => {
                 let mut found = String::new(heap);
-                match question {
-                    Question::Judge => write_set(&mut found, places.as_slice())?,
-                    Question::Hold(times) => write_holds(&mut found, places.as_slice(), times)?,
+                if set.layered.is_empty() {
+                    write_found(heap, &mut found, set.bare.as_slice(), question)?;
+                } else {
+                    write_found(heap, &mut found, set.layered.as_slice(), question)?;
                 }
                 rt.print(found)?;
-                places.clear();
+                set.clear();
             }
         }
     }
-    if !places.is_empty() {
+    if !set.is_empty() {
         return Err(anyhow!("nothing is asked of the last set"));
     }
     Ok(())
