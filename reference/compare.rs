@@ -65,16 +65,19 @@ impl Shared<'_> {
         self.progress.lock().expect("no thread has panicked")
     }
 
-    /// Compares while cases are left and none differed.
+    /// Compares while cases are left and none differed. Each run has a new folder: to write a file that is there once more takes
+    /// some systems far longer.
     fn work(&self, folder: &Path) -> Result<(), Halt> {
-        fs::create_dir_all(folder)?;
         loop {
             let Some(indices) = self.progress().take(self.comparison.count) else {
                 return Ok(());
             };
-            let compared = indices.end - indices.start;
-            match self.comparison.compare(folder, self.seed, indices) {
-                Ok(seen) => self.progress().note(self.comparison, compared, &seen),
+            let count = indices.end - indices.start;
+            fs::create_dir_all(folder)?;
+            let compared = self.comparison.compare(folder, self.seed, indices);
+            fs::remove_dir_all(folder)?;
+            match compared {
+                Ok(seen) => self.progress().note(self.comparison, count, &seen),
                 Err(Halt::Differs(difference)) => self.progress().note_difference(difference),
                 Err(failed) => return Err(failed),
             }

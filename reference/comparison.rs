@@ -77,55 +77,71 @@ impl Comparison {
     pub fn compare(&self, folder: &Path, seed: u64, indices: Range<u64>) -> Result<Seen, Halt> {
         let make = |index| (self.make)(&mut Random::of_case(seed, index));
         let cases: Vec<Case> = indices.clone().map(make).collect();
+        for (index, case) in indices.clone().zip(&cases) {
+            if let Some(against) = &case.against {
+                let text = tell_against(case, against);
+                return Err(Halt::Differs(Difference { index, text }));
+            }
+        }
         let ran = self.program.run(folder, &cases)?;
-        let mut seen = Seen::default();
+        let Some((place, rest)) = self.first_difference(&cases, &ran) else {
+            let mut seen = Seen::default();
+            cases.iter().for_each(|case| seen.note(case));
+            return Ok(seen);
+        };
+        let (place, text) = self.tell_difference(folder, &cases, place, rest, &ran)?;
+        let index = indices.start + place as u64;
+        Err(Halt::Differs(Difference { index, text }))
+    }
+
+    /// What stands behind the answer that is due for the case at a place of a run, if a text begins with that.
+    fn behind<'a>(&self, place: usize, case: &Case, text: &'a [u8]) -> Option<&'a [u8]> {
+        self.program.behind_name(place, text)?.strip_prefix(case.due.text.as_bytes())
+    }
+
+    /// The place of a case at which what was printed is not what is due, and what was printed from there on. A run ends with the
+    /// largest status of its cases.
+    fn first_difference<'a>(&self, cases: &[Case], ran: &'a Ran) -> Option<(usize, &'a [u8])> {
         let mut rest = &ran.printed[..];
         for (place, case) in cases.iter().enumerate() {
-            let text = match (&case.against, self.program.strip(place, case, rest)) {
-                (None, Some(behind)) => {
-                    seen.note(case);
-                    rest = behind;
-                    continue;
-                }
-                (Some(against), _) => tell_against(case, against),
-                (None, None) => self.tell(folder, case, &ran, rest)?,
-            };
-            let index = indices.start + place as u64;
-            return Err(Halt::Differs(Difference { index, text }));
-        }
-        // the run ends with the largest status of all, and prints nothing more
-        let status = cases.iter().map(|case| case.status).max();
-        match cases.last() {
-            Some(last) if !rest.is_empty() || ran.status.code() != status => {
-                let index = indices.end - 1;
-                let text = self.tell(folder, last, &ran, rest)?;
-                Err(Halt::Differs(Difference { index, text }))
+            match self.behind(place, case, rest) {
+                Some(behind) => rest = behind,
+                None => return Some((place, rest)),
             }
-            _ => Ok(seen),
+        }
+        let status = cases.iter().map(|case| case.status).max()?;
+        if !rest.is_empty() {
+            Some((cases.len() - 1, rest))
+        } else if ran.status.code() != Some(status) {
+            Some((cases.iter().position(|case| case.status == status)?, rest))
+        } else {
+            None
         }
     }
 
-    /// What is told of a case for which the program prints something else: its input and both answers. The program is run once
-    /// more, on this case alone.
-    fn tell(&self, folder: &Path, case: &Case, ran: &Ran, rest: &[u8]) -> io::Result<String> {
-        let alone = self.program.run(folder, slice::from_ref(case))?;
-        let input = told(&case.input);
-        let due = &case.due.text;
-        let status = case.status;
-        let printed = told(&alone.printed);
-        let error = told(&alone.error);
-        let mut text = format!(
-            "The input:\n{input}\nThe reference, with status {status}:\n{due}\n\
-             The program, with {}:\n{printed}{error}\n",
-            alone.status
-        );
-        let is_due = self.program.strip(0, case, &alone.printed) == Some(b"");
-        if is_due && alone.status.code() == Some(status) {
-            let here = told(&rest[..rest.len().min(due.len() + 200)]);
-            let error = told(&ran.error);
-            text += &format!("But among others, with {}:\n{here}\n{error}\n", ran.status);
+    /// The place of a case that differs, and its input and both answers. For the second, the program is run once more on this case
+    /// alone. Where it printed too much for a case, that shows at the case behind it.
+    fn tell_difference(
+        &self,
+        folder: &Path,
+        cases: &[Case],
+        place: usize,
+        rest: &[u8],
+        ran: &Ran,
+    ) -> io::Result<(usize, String)> {
+        for place in place.saturating_sub(1)..=place {
+            let case = &cases[place];
+            let alone = self.program.run(folder, slice::from_ref(case))?;
+            let is_due = self.behind(0, case, &alone.printed) == Some(b"");
+            if !is_due || alone.status.code() != Some(case.status) {
+                let answer = self.program.behind_name(0, &alone.printed);
+                let text = tell(case, answer.unwrap_or(&alone.printed), &alone);
+                return Ok((place, text));
+            }
         }
-        Ok(text)
+        let end = rest.len().min(cases[place].due.text.len() + 200);
+        let text = tell(&cases[place], &rest[..end], ran);
+        Ok((place, format!("{text}Alone it is answered as it should be.\n")))
     }
 
     /// Prints what was seen in all cases, and answers a check that is due and never came up.
@@ -141,6 +157,19 @@ impl Comparison {
         let mut due = self.due.iter().cloned().flatten();
         due.find(|check| !came_up.contains(check))
     }
+}
+
+/// What is told of a case: its input, and both answers.
+fn tell(case: &Case, answer: &[u8], ran: &Ran) -> String {
+    let input = told(&case.input);
+    let Case { due, status, .. } = case;
+    let answer = told(answer);
+    let error = told(&ran.error);
+    format!(
+        "The input:\n{input}\nThe reference, exit status: {status}\n{}\n\
+         The program, {}\n{answer}\n{error}\n",
+        due.text, ran.status
+    )
 }
 
 /// What is told where some plan speaks against what the brute force found.

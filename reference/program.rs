@@ -43,13 +43,12 @@ impl From<Output> for Ran {
 }
 
 impl Program {
-    /// What stands behind the answer that is due for the case at a place of a run, if a text begins with that.
-    pub fn strip<'a>(&self, place: usize, case: &Case, text: &'a [u8]) -> Option<&'a [u8]> {
-        let answer = match self.feed {
-            Feed::NamedFiles => text.strip_prefix(format!("{place}\n").as_bytes())?,
-            Feed::Input | Feed::Files => text,
-        };
-        answer.strip_prefix(case.due.text.as_bytes())
+    /// A text without the name of the case at a place of a run, if the program prints that first.
+    pub fn behind_name<'a>(&self, place: usize, text: &'a [u8]) -> Option<&'a [u8]> {
+        match self.feed {
+            Feed::NamedFiles => text.strip_prefix(format!("{place}\n").as_bytes()),
+            Feed::Input | Feed::Files => Some(text),
+        }
     }
 
     /// Runs it on some cases, in a folder where their files may stand.
