@@ -16,10 +16,10 @@ use anyhow::anyhow;
 use demand::Kind;
 use holding::hold_last;
 use line::{Line, Question};
-use set::Set;
-use std::alloc::{AllocError, Global};
+use set::{Rows, Set};
+use std::alloc::AllocError;
 use std::io::{BufRead, BufReader};
-use table::{HoldRefusal, MOST_ROWS};
+use table::HoldRefusal;
 
 // Appends the line of one answer.
 fn write_answer(text: &mut String, answer: &Answer) -> Result<(), AllocError>
@@ -49,13 +49,11 @@ fn write_set<K: Kind>(text: &mut String, set: &[Option<Task<K>>]) -> Result<(), 
 
 // Appends what comes of holding the last row of one set.
 fn write_holds<K: Kind + Copy + Drop>(
-    heap: Global,
     text: &mut String,
-    set: &[Option<Task<K>>],
+    rows: &mut Rows<K>,
     times: u32,
 ) -> Result<(), AllocError> {
-    let mut places = vec![in heap; None; MOST_ROWS]?;
-    match hold_last(set, times, places.as_mut_slice()) {
+    match hold_last(&rows.tasks, times, &mut rows.memory) {
         Ok(()) => writeln!(text, "held {times}")?,
         Err(HoldRefusal::Late(number)) => writeln!(text, "late {number}")?,
         Err(refusal) => writeln!(text, "refused {}", refusal.number())?,
@@ -65,14 +63,13 @@ fn write_holds<K: Kind + Copy + Drop>(
 
 // Appends what is asked of one set.
 fn write_found<K: Kind + Copy + Drop>(
-    heap: Global,
     text: &mut String,
-    set: &[Option<Task<K>>],
+    rows: &mut Rows<K>,
     question: Question,
 ) -> Result<(), AllocError> {
     match question {
-        Question::Judge => write_set(text, set),
-        Question::Hold(times) => write_holds(heap, text, set, times),
+        Question::Judge => write_set(text, &rows.tasks),
+        Question::Hold(times) => write_holds(text, rows, times),
     }
 }
 
@@ -85,17 +82,17 @@ fn line_at(index: usize, text: &str) -> anyhow::Result<Line> {
 
 fn run(rt: &HostRuntime) -> anyhow::Result<()> {
     let heap = rt.alloc();
-    let mut set = Set::new(heap);
+    let mut set = Set::new(heap)?;
     let lines = BufReader::new(heap, rt.stdin())?.lines(heap);
     for (index, text) in lines.enumerate() {
         match line_at(index, text?.as_str())? {
             Line::Row(task) => set.push(task)?,
             Line::Ask(question) => {
                 let mut found = String::new(heap);
-                if set.layered.is_empty() {
-                    write_found(heap, &mut found, set.bare.as_slice(), question)?;
+                if set.layered.tasks.is_empty() {
+                    write_found(&mut found, &mut set.bare, question)?;
                 } else {
-                    write_found(heap, &mut found, set.layered.as_slice(), question)?;
+                    write_found(&mut found, &mut set.layered, question)?;
                 }
                 rt.print(found)?;
                 set.clear();
