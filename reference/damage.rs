@@ -45,13 +45,6 @@ fn some_byte(random: &mut Random) -> u8 {
     }
 }
 
-/// The places of the marks that end fields.
-fn ends(text: &[u8]) -> Vec<usize> {
-    let marks = text.iter().enumerate();
-    let marks = marks.filter(|(_, byte)| matches!(byte, b'\t' | b'\n'));
-    marks.map(|(place, _)| place).collect()
-}
-
 /// Two of the lines are exchanged, or one stands there twice. What stands behind the last newline goes.
 fn exchange_lines(random: &mut Random, text: &mut Vec<u8>) {
     let mut lines: Vec<Vec<u8>> = text
@@ -59,11 +52,9 @@ fn exchange_lines(random: &mut Random, text: &mut Vec<u8>) {
         .filter(|line| line.ends_with(b"\n"))
         .map(<[u8]>::to_vec)
         .collect();
-    if lines.is_empty() {
+    let (Some(one), Some(other)) = (random.place(lines.len()), random.place(lines.len())) else {
         return;
-    }
-    let one = random.below(lines.len() as u32) as usize;
-    let other = random.below(lines.len() as u32) as usize;
+    };
     if random.one_in(2) {
         lines.insert(one, lines[other].clone());
     } else {
@@ -72,9 +63,9 @@ fn exchange_lines(random: &mut Random, text: &mut Vec<u8>) {
     *text = lines.concat();
 }
 
-/// A field, where the last one of a text may lack its mark.
+/// A field that a mark ends, which stands behind it.
 fn some_field(random: &mut Random, text: &[u8]) -> Option<Range<usize>> {
-    let ends = ends(text);
+    let ends: Vec<usize> = (0..text.len()).filter(|place| matches!(text[*place], b'\t' | b'\n')).collect();
     let field = random.place(ends.len())?;
     let start = if field == 0 { 0 } else { ends[field - 1] + 1 };
     Some(start..ends[field])
@@ -112,18 +103,18 @@ fn lengthen(random: &mut Random, text: &mut Vec<u8>, field: Range<usize>) {
 fn damage(random: &mut Random, text: &mut Vec<u8>) {
     let chosen = random.place(text.len());
     let field = some_field(random, text);
-    match (random.below(600), chosen, field) {
-        (0..=9, _, Some(field)) => lengthen(random, text, field),
-        (10..=59, Some(place), _) => text[place] = some_byte(random),
-        (60..=109, Some(place), _) => {
+    match (random.below(60), chosen, field) {
+        (0, _, Some(field)) => lengthen(random, text, field),
+        (1..=5, Some(place), _) => text[place] = some_byte(random),
+        (6..=10, Some(place), _) => text.insert(place, some_byte(random)),
+        (11..=15, Some(place), _) => {
             text.remove(place);
         }
-        (110..=159, Some(place), _) => text.insert(place, some_byte(random)),
-        (160..=209, ..) => {
+        (16..=20, ..) => {
             text.pop();
         }
-        (210..=309, ..) => exchange_lines(random, text),
-        (310.., _, Some(field)) => damage_field(random, text, field),
+        (21..=30, ..) => exchange_lines(random, text),
+        (31.., _, Some(field)) => damage_field(random, text, field),
         _ => {}
     }
 }

@@ -93,14 +93,7 @@ impl<'a> Fields<'a> {
         let numbers = (17..=due).map(|field| self.number(field)).collect::<Result<Vec<u32>, Blame>>()?;
         let jobs = Jobs::of(word, &numbers).ok_or(Check::Count)?;
         check_jobs(jobs, delay)?;
-        Ok(Row {
-            number,
-            priority,
-            suspension,
-            suspensions,
-            deadline,
-            sections,
-            kind: Kind { jobs, layers: [Some(Layer::Delayed(delay)), Some(Layer::Slowed(clock))] },
-        })
+        let kind = Kind { jobs, layers: [Some(Layer::Delayed(delay)), Some(Layer::Slowed(clock))] };
+        Ok(Row { number, priority, suspension, suspensions, deadline, sections, kind })
     }
 }

@@ -4,7 +4,7 @@ use crate::account::Account;
 use crate::answer::Answer;
 use crate::check::{Blame, Check};
 use crate::fields::Fields;
-use crate::found::Judge;
+use crate::found::{Found, Judge};
 use crate::kind::Factor;
 use crate::plan_file::MOST_BYTES;
 use crate::row::MOST_ROWS;
@@ -45,6 +45,18 @@ fn only_number(fields: &Fields) -> Result<u32, Blame> {
     fields.number(2)
 }
 
+/// Makes a call about the row of a number, and says what is done then.
+fn call_about(
+    account: &mut Account,
+    fields: &Fields,
+    call: fn(&mut Account, u32) -> Result<(), Check>,
+    done: &str,
+) -> Result<String, Blame> {
+    let number = only_number(fields)?;
+    call(account, number)?;
+    Ok(format!("{done}\t{number}\n"))
+}
+
 /// What a line with a call is answered.
 fn make_call(account: &mut Account, clock: Factor, fields: &Fields) -> Result<String, Blame> {
     match fields.get(1) {
@@ -53,25 +65,12 @@ fn make_call(account: &mut Account, clock: Factor, fields: &Fields) -> Result<St
             account.hold(row)?;
             Ok(format!("held\t{}\n", row.number))
         }
-        Some(b"keep") => {
-            let number = only_number(fields)?;
-            account.keep(number)?;
-            Ok(format!("kept\t{number}\n"))
-        }
-        Some(b"release") => {
-            let number = only_number(fields)?;
-            account.release(number)?;
-            Ok(format!("released\t{number}\n"))
-        }
-        Some(b"withdraw") => {
-            let number = only_number(fields)?;
-            account.withdraw(number)?;
-            Ok(format!("withdrawn\t{number}\n"))
-        }
+        Some(b"keep") => call_about(account, fields, Account::keep, "kept"),
+        Some(b"release") => call_about(account, fields, Account::release, "released"),
+        Some(b"withdraw") => call_about(account, fields, Account::withdraw, "withdrawn"),
         Some(b"bound") => {
-            let number = only_number(fields)?;
-            let found = account.bound(number)?;
-            Ok(format!("bound\t{number}\t{}\t{}\n", found.bound, found.vector))
+            let Found { number, bound, vector, .. } = account.bound(only_number(fields)?)?;
+            Ok(format!("bound\t{number}\t{bound}\t{vector}\n"))
         }
         Some(b"rows") => {
             fields.count(1)?;

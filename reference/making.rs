@@ -127,24 +127,26 @@ fn judged_row(random: &mut Random, deal: Deal, place: u32) -> Row {
     }
 }
 
+/// So many rows, with numbers and priorities of their own.
+fn some_rows(random: &mut Random, count: u32, row: impl Fn(&mut Random, Deal, u32) -> Row) -> Vec<Row> {
+    let deal = Deal::new(random);
+    (0..count).map(|place| row(random, deal, place)).collect()
+}
+
 /// One to four rows that are judged.
 pub fn judged_set(random: &mut Random) -> Vec<Row> {
     let count = random.within(1, 4);
-    let deal = Deal::new(random);
-    (0..count).map(|place| judged_row(random, deal, place)).collect()
+    some_rows(random, count, judged_row)
 }
 
-/// Sound rows of all kinds, of which the last may have a fault.
+/// One to four sound rows of all kinds, of which the last may have a fault.
 pub fn sound_set(random: &mut Random) -> Vec<Row> {
     let count = random.within(1, 4);
-    let deal = Deal::new(random);
-    let mut rows: Vec<Row> = (0..count)
-        .map(|place| {
-            let name = deal.name(random, place);
-            let kind = some_kind(random);
-            sound_row(random, Weight::Usual, name, kind)
-        })
-        .collect();
+    let mut rows = some_rows(random, count, |random, deal, place| {
+        let name = deal.name(random, place);
+        let kind = some_kind(random);
+        sound_row(random, Weight::Usual, name, kind)
+    });
     if random.one_in(3) {
         rows.last_mut().into_iter().for_each(|row| spoil(random, row));
     }
@@ -154,14 +156,11 @@ pub fn sound_set(random: &mut Random) -> Vec<Row> {
 /// Eleven to thirteen rows that take little time.
 pub fn light_set(random: &mut Random) -> Vec<Row> {
     let count = random.within(11, 13);
-    let deal = Deal::new(random);
-    (0..count)
-        .map(|place| {
-            let name = deal.name(random, place);
-            let kind = Kind { jobs: light_jobs(random), layers: [None; 2] };
-            sound_row(random, Weight::Light, name, kind)
-        })
-        .collect()
+    some_rows(random, count, |random, deal, place| {
+        let name = deal.name(random, place);
+        let kind = Kind { jobs: light_jobs(random), layers: [None; 2] };
+        sound_row(random, Weight::Light, name, kind)
+    })
 }
 
 /// A row that passes all checks but perhaps those of its name, and that for lateness.

@@ -74,73 +74,70 @@ enum Line {
     Ask(Question),
 }
 
+/// A line cannot be read.
+struct Unreadable;
+
 /// The fields of a line that are left.
 struct Words<'a>(Peekable<Split<'a, char>>);
 
-impl Words<'_> {
-    fn number(&mut self) -> Option<u32> {
-        self.0.next()?.parse().ok()
+fn number_of(word: &str) -> Result<u32, Unreadable> {
+    word.parse().map_err(|_| Unreadable)
+}
+
+impl<'a> Words<'a> {
+    fn word(&mut self) -> Result<&'a str, Unreadable> {
+        self.0.next().ok_or(Unreadable)
     }
 
-    fn numbers<const N: usize>(&mut self) -> Option<[u32; N]> {
+    fn numbers<const N: usize>(&mut self) -> Result<[u32; N], Unreadable> {
         let mut numbers = [0; N];
         for number in &mut numbers {
-            *number = self.number()?;
+            *number = number_of(self.word()?)?;
         }
-        Some(numbers)
+        Ok(numbers)
     }
 
     /// A layer, if one stands here.
-    fn layer(&mut self) -> Option<Option<Layer>> {
-        let layer = match *self.0.peek()? {
-            "delayed" => {
-                self.0.next();
-                Layer::Delayed(self.number()?)
-            }
-            "slowed" => {
-                self.0.next();
-                let [numerator, denominator] = self.numbers()?;
-                Layer::Slowed(Factor { numerator, denominator })
-            }
-            _ => return Some(None),
-        };
-        Some(Some(layer))
+    fn layer(&mut self) -> Result<Option<Layer>, Unreadable> {
+        if self.0.next_if_eq(&"delayed").is_some() {
+            let [delay] = self.numbers()?;
+            return Ok(Some(Layer::Delayed(delay)));
+        }
+        if self.0.next_if_eq(&"slowed").is_some() {
+            let [numerator, denominator] = self.numbers()?;
+            return Ok(Some(Layer::Slowed(Factor { numerator, denominator })));
+        }
+        Ok(None)
     }
 
-    fn jobs(&mut self) -> Option<Jobs> {
-        let word = self.0.next()?;
-        let numbers: Vec<u32> = self.0.by_ref().map(|word| word.parse().ok()).collect::<Option<_>>()?;
-        Jobs::of(word.as_bytes(), &numbers)
-    }
-
-    fn row(&mut self) -> Option<Row> {
+    fn row(&mut self) -> Result<Row, Unreadable> {
         let [number, priority, suspension, suspensions, deadline] = self.numbers()?;
         let sections = self.numbers::<LOCKS>()?;
         let outer = self.layer()?;
         let inner = self.layer()?;
-        let layers = [inner, outer];
-        let jobs = self.jobs()?;
-        Some(Row {
-            number,
-            priority,
-            suspension,
-            suspensions,
-            deadline,
-            sections,
-            kind: Kind { jobs, layers },
-        })
+        let word = self.word()?;
+        let numbers = self.0.by_ref().map(number_of).collect::<Result<Vec<u32>, Unreadable>>()?;
+        let jobs = Jobs::of(word.as_bytes(), &numbers).ok_or(Unreadable)?;
+        let kind = Kind { jobs, layers: [inner, outer] };
+        Ok(Row { number, priority, suspension, suspensions, deadline, sections, kind })
     }
 }
 
-fn read_line(line: &str) -> Option<Line> {
+fn read_line(line: &str) -> Result<Line, Unreadable> {
     let mut words = Words(line.split(' ').peekable());
-    let line = match words.0.next()? {
+    let line = match words.word()? {
         "row" => Line::Row(words.row()?),
         "judge" => Line::Ask(Question::Judge),
-        "hold" => Line::Ask(Question::Hold(words.number()?)),
-        _ => return None,
+        "hold" => {
+            let [times] = words.numbers()?;
+            Line::Ask(Question::Hold(times))
+        }
+        _ => return Err(Unreadable),
     };
-    words.0.next().is_none().then_some(line)
+    match words.0.next() {
+        None => Ok(line),
+        Some(_) => Err(Unreadable),
+    }
 }
 
 /// What is printed for all sets of a text; or the number of the first line that cannot be read.
@@ -148,7 +145,7 @@ pub fn answer_all(judge: Judge, text: &str) -> Result<String, usize> {
     let mut answers = String::new();
     let mut rows = Vec::new();
     for (number, line) in (1usize..).zip(text.lines()) {
-        match read_line(line).ok_or(number)? {
+        match read_line(line).map_err(|Unreadable| number)? {
             Line::Row(row) => rows.push(row),
             Line::Ask(question) => {
                 answers += &answer(judge, &rows, question).text;
