@@ -40,10 +40,13 @@ impl Case {
 /// A set of rows: mostly to be judged, or its last row is to be held over the others.
 pub fn some_set(random: &mut Random) -> Case {
     let question = if random.one_in(8) { Question::Hold(random.within(0, 3)) } else { Question::Judge };
-    let rows = match question {
-        _ if random.one_in(2000) => light_set(random),
-        Question::Judge => judged_set(random),
-        Question::Hold(_) => sound_set(random),
+    let rows = if random.one_in(500) {
+        light_set(random)
+    } else {
+        match question {
+            Question::Judge => judged_set(random),
+            Question::Hold(_) => sound_set(random),
+        }
     };
     let mut input: String = rows.iter().map(Row::set_line).collect();
     input += &question.line();
@@ -105,28 +108,31 @@ fn some_evening(random: &mut Random) -> String {
     let clock = some_clock(random);
     let mut text = format!("table\t{}\t{places}\n", random.byte());
     text += &clock.line();
-    // numbers of rows that asked to enter, the last ones
+    // the numbers of rows that asked to enter
     let mut numbers = Vec::new();
     // where tables are to fill up, nearly all calls are holds
     let turns = match weight {
         Weight::Light => 60,
         Weight::Usual => 14,
     };
+    let spend = |random: &mut Random, number| format!("{}\t{number}\n", random.choice(&["keep", "release"]));
     for _ in 0..calls {
         let number = some_number(random, &numbers);
         text += &match random.below(turns) {
             0 | 1 => format!("withdraw\t{number}\n"),
             2 => format!("bound\t{number}\n"),
-            3 => format!("keep\t{number}\n"),
-            4 => format!("release\t{number}\n"),
-            5 if random.one_in(2) => format!("keep\t{number}\n"),
-            5 => format!("release\t{number}\n"),
+            3..=5 => spend(random, number),
             _ => {
                 let row = entering_row(random, weight, clock);
                 numbers.push(row.number);
                 row.tab_line("hold")
             }
         };
+        text += "rows\n";
+    }
+    // half of the evenings spend all holds
+    if random.one_in(2) {
+        text.extend(numbers.iter().map(|number| spend(random, *number)));
         text += "rows\n";
     }
     text

@@ -13,9 +13,6 @@ use std::{env, fs, process};
 /// So many cases go into one run of a program.
 const BATCH: u64 = 1000;
 
-/// Among so many cases each check that is due comes up.
-const MANY: u64 = 20_000;
-
 /// How far a comparison is.
 #[derive(Default)]
 struct Progress {
@@ -99,12 +96,16 @@ impl Shared<'_> {
         let Shared { comparison, seed, progress } = self;
         let progress = progress.into_inner().expect("no thread has panicked");
         if let Some(Difference { index, text }) = progress.difference {
-            let text = format!("{}, case {index} of seed {seed}\n{text}", comparison.cases);
+            let head = format!("{}, case {index} of seed {seed}\n", comparison.cases);
+            let text = [head.as_bytes(), &text].concat();
             return Err(Halt::Differs(Difference { index, text }));
         }
-        match comparison.print_seen(&progress.seen) {
-            Some(check) if MANY <= comparison.count => Err(Halt::Missing(check)),
-            _ => Ok(()),
+        comparison.print_seen(&progress.seen);
+        let missing = comparison.missing(&progress.seen);
+        if comparison.count < comparison.many || missing.is_empty() {
+            Ok(())
+        } else {
+            Err(Halt::Missing(missing))
         }
     }
 }
@@ -119,7 +120,8 @@ fn comparisons(options: &Options, programs: &Path) -> [Comparison; 3] {
             program: program("judge_sets", Feed::Input),
             make: some_set,
             count: options.sets,
-            due: vec![5..12],
+            many: Options::SETS,
+            due: &[5..=11],
         },
         Comparison {
             cases: "files",
@@ -127,7 +129,8 @@ fn comparisons(options: &Options, programs: &Path) -> [Comparison; 3] {
             program: program("plan", Feed::NamedFiles),
             make: some_file,
             count: options.files,
-            due: vec![1..12, 15..19],
+            many: Options::FILES,
+            due: &[1..=11, 15..=18],
         },
         Comparison {
             cases: "logs",
@@ -135,7 +138,8 @@ fn comparisons(options: &Options, programs: &Path) -> [Comparison; 3] {
             program: program("replay", Feed::Files),
             make: some_log,
             count: options.logs,
-            due: vec![1..19],
+            many: Options::LOGS,
+            due: &[1..=18],
         },
     ]
 }

@@ -63,6 +63,13 @@ fn exchange_lines(random: &mut Random, text: &mut Vec<u8>) {
     *text = lines.concat();
 }
 
+/// What stands behind a line goes, or all that there is.
+fn cut(random: &mut Random, text: &mut Vec<u8>) {
+    let ends: Vec<usize> = (0..text.len()).filter(|place| text[*place] == b'\n').map(|end| end + 1).collect();
+    let end = random.place(ends.len() + 1).and_then(|line| ends.get(line).copied());
+    text.truncate(end.unwrap_or(0));
+}
+
 /// A field that a mark ends, which stands behind it.
 fn some_field(random: &mut Random, text: &[u8]) -> Option<Range<usize>> {
     let ends: Vec<usize> = (0..text.len()).filter(|place| matches!(text[*place], b'\t' | b'\n')).collect();
@@ -110,9 +117,10 @@ fn damage(random: &mut Random, text: &mut Vec<u8>) {
         (11..=15, Some(place), _) => {
             text.remove(place);
         }
-        (16..=20, ..) => {
+        (16..=19, ..) => {
             text.pop();
         }
+        (20, ..) => cut(random, text),
         (21..=30, ..) => exchange_lines(random, text),
         (31.., _, Some(field)) => damage_field(random, text, field),
         _ => {}

@@ -22,9 +22,9 @@ pub type Judged = Result<Vec<Found>, Late>;
 pub type Judge = fn(&[Row]) -> Judged;
 
 impl Found {
-    /// The line of the row, with this between two fields.
-    pub fn line(&self, mark: char) -> String {
+    /// The fields of the row's line, with this between two of them.
+    pub fn fields(&self, mark: char) -> String {
         let Found { number, bound, vector, blocking } = self;
-        format!("row{mark}{number}{mark}{bound}{mark}{vector}{mark}{blocking}\n")
+        format!("row{mark}{number}{mark}{bound}{mark}{vector}{mark}{blocking}")
     }
 }

@@ -1,5 +1,5 @@
-//! Kinds of demand as the formats have them, and which of their numbers count. What a kind answers is worked out twice: job by job
-//! in `demand`, and by a formula in `peer`.
+//! Kinds of demand as the formats have them: which of their numbers count, the spacing, the longest and the shortest job. The work
+//! is worked out twice: job by job in `demand`, and by a formula in `peer`.
 
 use std::fmt;
 
@@ -47,6 +47,11 @@ pub struct Pattern {
     pub heavy: u64,
     pub among: u64,
     pub period: u64,
+}
+
+/// What becomes of work under some factors, the inner one first: rounded up.
+pub fn slow_up(factors: impl IntoIterator<Item = (u64, u64)>, work: u64) -> u64 {
+    factors.into_iter().fold(work.min(CAP), |work, (a, b)| (work * a).div_ceil(b).min(CAP))
 }
 
 impl Factor {
@@ -118,7 +123,7 @@ impl Kind {
 
     /// What becomes of the longest job, or of work.
     pub fn slow_up(self, time: u64) -> u64 {
-        self.factors().fold(time.min(CAP), |time, (a, b)| (time * a).div_ceil(b).min(CAP))
+        slow_up(self.factors(), time)
     }
 
     /// What becomes of the shortest job.

@@ -31,12 +31,11 @@ fn read_table(fields: &Fields) -> Result<usize, Blame> {
 
 /// What is told of all rows.
 fn tell_rows(account: &Account) -> String {
-    let mut text = String::new();
-    for row in account.found() {
+    let line = |row: &Found| {
         let state = if account.is_held(row.number) { "held" } else { "kept" };
-        text += &row.line('\t').replace('\n', &format!("\t{state}\n"));
-    }
-    text
+        format!("{}\t{state}\n", row.fields('\t'))
+    };
+    account.found().iter().map(line).collect()
 }
 
 /// The number in the second and last field of a call.

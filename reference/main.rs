@@ -59,7 +59,7 @@ With no file, plan and replay read one from standard input.
     reference hard-sets SEED COUNT [ROWS LONGEST]
     reference hard-files SEED COUNT [ROWS LONGEST]
 
-print so many hard sets of so many rows, 12 if not said and 64 at most, with periods up to LONGEST, 1,000 to 1,000,000;
+print so many hard sets of so many rows, 12 if not said, with periods up to LONGEST, 1,000 to 1,000,000;
 or plan files of the same sets, one behind the other.
 
 Exit status: 0; 1 at a difference, where a check never came up among many cases, or where a line of a set cannot
@@ -69,23 +69,23 @@ be read; 2 where a file or a program fails, or for arguments that are not unders
 /// Why the program does not end with status 0, and with which it ends.
 struct Failure {
     status: u8,
-    text: String,
+    text: Vec<u8>,
 }
 
 impl Failure {
-    /// A difference, or what comes to the same.
-    fn of_answers(text: String) -> Failure {
-        Failure { status: 1, text }
+    /// Answers differ, or cannot be given.
+    fn of_answers(text: impl Into<Vec<u8>>) -> Failure {
+        Failure { status: 1, text: text.into() }
     }
 
     fn of_arguments() -> Failure {
-        Failure { status: 2, text: String::from("reference --help says what there is") }
+        Failure { status: 2, text: b"reference --help says what there is".to_vec() }
     }
 }
 
 impl From<io::Error> for Failure {
     fn from(error: io::Error) -> Failure {
-        Failure { status: 2, text: error.to_string() }
+        Failure { status: 2, text: error.to_string().into_bytes() }
     }
 }
 
@@ -93,7 +93,7 @@ impl From<Halt> for Failure {
     fn from(halt: Halt) -> Failure {
         match halt {
             Halt::Differs(Difference { text, .. }) => Failure::of_answers(text),
-            Halt::Missing(check) => Failure::of_answers(format!("check {check} never came up")),
+            Halt::Missing(checks) => Failure::of_answers(format!("checks {checks:?} never came up")),
             Halt::Failed(error) => Failure::from(error),
         }
     }
@@ -111,8 +111,7 @@ fn judge_of(method: Option<String>) -> Result<Judge, Failure> {
 /// What is printed for all sets on standard input.
 fn answer_sets(judge: Judge) -> Result<String, Failure> {
     let text = io::read_to_string(io::stdin())?;
-    let unreadable = |line| Failure::of_answers(format!("line {line}: neither a row, nor 'judge' or 'hold'"));
-    set_file::answer_all(judge, &text).map_err(unreadable)
+    set_file::answer_all(judge, &text).map_err(Failure::of_answers)
 }
 
 /// What is printed for files, or for one on standard input. `named` says whether their names are.
@@ -146,7 +145,7 @@ fn make_hard(
     let numbers: Option<Vec<u64>> = words.map(|word| word.parse().ok()).collect();
     match numbers.as_deref() {
         Some(&[seed, count]) => Ok(make(seed, count, 12, 1_000_000)),
-        Some(&[seed, count, rows @ 1..=64, longest @ 1_000..=1_000_000]) => {
+        Some(&[seed, count, rows @ 1..=12, longest @ 1_000..=1_000_000]) => {
             Ok(make(seed, count, rows as usize, longest))
         }
         _ => Err(Failure::of_arguments()),
@@ -181,7 +180,8 @@ fn main() -> ExitCode {
     match printed {
         Ok(()) => ExitCode::SUCCESS,
         Err(Failure { status, text }) => {
-            eprintln!("reference: {text}");
+            // where even this cannot be written, the status says it
+            let _ = io::stderr().write_all(&[b"reference: ", &text[..], b"\n"].concat());
             ExitCode::from(status)
         }
     }

@@ -116,7 +116,7 @@ fn judged_row(random: &mut Random, deal: Deal, place: u32) -> Row {
     let (suspension, suspensions) =
         if random.one_in(12) { (random.below(3), random.below(3)) } else { some_suspension(random) };
     let deadline = if random.one_in(8) { random.below(20) } else { random.within(20, 60) };
-    Row {
+    let mut row = Row {
         number,
         priority,
         suspension,
@@ -124,7 +124,12 @@ fn judged_row(random: &mut Random, deal: Deal, place: u32) -> Row {
         deadline,
         sections: some_sections(random, 4),
         kind: some_kind(random),
+    };
+    if random.one_in(50) {
+        let sums = [&mut row.suspension, &mut row.suspensions, &mut row.sections[0]];
+        sums.into_iter().for_each(|number| *number = random.choice(&[*number, u32::MAX]));
     }
+    row
 }
 
 /// So many rows, with numbers and priorities of their own.
@@ -176,7 +181,7 @@ fn sound_row(random: &mut Random, weight: Weight, (number, priority): (u32, u32)
         priority,
         suspension,
         suspensions,
-        deadline: spacing.saturating_sub(random.below(3)),
+        deadline: spacing.saturating_sub(random.below(3)).max(1),
         sections: some_sections(random, own.min(2)),
         kind,
     }

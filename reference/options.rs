@@ -12,13 +12,22 @@ pub struct Options {
 }
 
 impl Options {
+    /// How many sets there are if it is not said.
+    pub const SETS: u64 = 200_000;
+
+    /// Likewise for plan files.
+    pub const FILES: u64 = 200_000;
+
+    /// Likewise for logs.
+    pub const LOGS: u64 = 20_000;
+
     /// Reads arguments, each behind its name. What is not named has a usual value.
     pub fn read(mut words: impl Iterator<Item = String>) -> Option<Options> {
         let mut options = Options {
             seed: 1,
-            sets: 200_000,
-            files: 200_000,
-            logs: 20_000,
+            sets: Options::SETS,
+            files: Options::FILES,
+            logs: Options::LOGS,
             programs: PathBuf::from("target/reference"),
         };
         while let Some(name) = words.next() {

@@ -1,8 +1,8 @@
-//! The same answers quickly, for the benchmark: work by a formula, and a search that goes from a window straight to the next that
-//! can do. No other file here rests on this one, and of the brute force nothing is used.
+//! The same answers quickly, for the benchmark: work by a formula, ceilings, and a search that goes from a window straight to the
+//! next that can do. Of `demand` and `scan` nothing is used.
 
 use crate::found::{Found, Judged, Late};
-use crate::kind::{Kind, Pattern, CAP, LONGEST_WINDOW};
+use crate::kind::{slow_up, Kind, Pattern, LONGEST_WINDOW};
 use crate::row::{Row, LOCKS};
 use std::cmp::Reverse;
 use std::ops::Range;
@@ -47,8 +47,7 @@ impl Demand {
         if job < heavy {
             work += jobs.div_ceil(among) * (heavy - job);
         }
-        let slow = |time: u64, (a, b): &(u64, u64)| (time * a).div_ceil(*b).min(CAP);
-        self.factors.iter().fold(work.min(CAP), slow)
+        slow_up(self.factors.iter().copied(), work)
     }
 }
 
@@ -64,11 +63,11 @@ impl Case<'_> {
         let mut waits = 0;
         for (rank, row) in self.higher.iter().enumerate().rev() {
             let mut jitter = row.jitter;
-            if vector >> rank & 1 == 1 {
+            if (vector >> rank) & 1 == 1 {
                 waits += row.wait;
                 jitter = 0;
             }
-            sum += row.demand.work(window + waits + jitter);
+            sum = sum.saturating_add(row.demand.work(window + waits + jitter));
         }
         sum
     }
@@ -128,7 +127,11 @@ fn judge_by(search: Search, rows: &[Row]) -> Judged {
     for (rank, row) in ranked.iter().enumerate() {
         let blocking = blocking(&ceilings, row, &ranked[rank + 1..]);
         let wait = u64::from(row.suspension) + blocking;
-        let case = Case { need: wait + row.kind.own(), deadline: u64::from(row.deadline), higher: &higher };
+        let case = Case {
+            need: wait.saturating_add(row.kind.own()),
+            deadline: u64::from(row.deadline),
+            higher: &higher,
+        };
         let (bound, vector) = search(&case).ok_or(Late(row.number))?;
         found.push(Found { number: row.number, bound: bound as u32, vector: vector as u32, blocking });
         higher.push(Done { demand: Demand::new(row.kind), wait, jitter: bound - row.kind.least() });

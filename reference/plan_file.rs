@@ -35,7 +35,7 @@ fn load(judge: Judge, file: &[u8]) -> Result<Vec<Found>, Refusal> {
 pub fn answer(judge: Judge, file: &[u8]) -> Answer {
     let mut answer = Answer::default();
     match load(judge, file) {
-        Ok(found) => answer.text.extend(found.iter().map(|row| row.line('\t'))),
+        Ok(found) => answer.text.extend(found.iter().map(|row| row.fields('\t') + "\n")),
         Err(Refusal(line, blame)) => answer.refuse(line, blame),
     }
     answer

@@ -7,6 +7,9 @@ use std::path::{Path, PathBuf};
 use std::process::{Command, ExitStatus, Output, Stdio};
 use std::thread;
 
+/// How many seconds a run may take. A thousand cases take a tenth of one.
+const LIMIT: &str = "60";
+
 /// How a program gets its cases.
 #[derive(Clone, Copy, PartialEq, Eq)]
 pub enum Feed {
@@ -42,6 +45,13 @@ impl From<Output> for Ran {
     }
 }
 
+impl Ran {
+    /// Whether it ended with this status, and told no error.
+    pub fn ended_with(&self, status: i32) -> bool {
+        self.status.code() == Some(status) && self.error.is_empty()
+    }
+}
+
 impl Program {
     /// A text without the name of the case at a place of a run, if the program prints that first.
     pub fn behind_name<'a>(&self, place: usize, text: &'a [u8]) -> Option<&'a [u8]> {
@@ -52,13 +62,15 @@ impl Program {
     }
 
     /// Runs it on some cases, in a folder where their files may stand.
-    pub fn run(&self, folder: &Path, cases: &[Case]) -> io::Result<Ran> {
-        self.try_to_run(folder, cases).map_err(|error| about(&self.path, error))
+    pub fn run<'a>(&self, folder: &Path, cases: impl IntoIterator<Item = &'a Case>) -> io::Result<Ran> {
+        let cases: Vec<&Case> = cases.into_iter().collect();
+        self.try_to_run(folder, &cases).map_err(|error| about(&self.path, error))
     }
 
-    fn try_to_run(&self, folder: &Path, cases: &[Case]) -> io::Result<Ran> {
-        let mut command = Command::new(&self.path);
-        command.current_dir(folder).stdout(Stdio::piped()).stderr(Stdio::piped());
+    fn try_to_run(&self, folder: &Path, cases: &[&Case]) -> io::Result<Ran> {
+        let mut command = Command::new("timeout");
+        command.arg(LIMIT).arg(&self.path).current_dir(folder);
+        command.stdout(Stdio::piped()).stderr(Stdio::piped());
         if self.feed == Feed::Input {
             let mut child = command.stdin(Stdio::piped()).spawn()?;
             let mut input = child.stdin.take().expect("standard input is a pipe");

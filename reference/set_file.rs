@@ -34,7 +34,7 @@ fn judge_set(judge: Judge, rows: &[Row]) -> Result<String, Blame> {
         return Err(Blame::Line(Check::NoPlace));
     }
     let found = judge(rows).map_err(|Late(number)| Blame::Late(number))?;
-    Ok(found.iter().map(|row| row.line(' ')).collect())
+    Ok(found.iter().map(|row| row.fields(' ') + "\n").collect())
 }
 
 /// Holds the last row so many times, over a table that keeps the others, and releases it each time.
@@ -140,12 +140,12 @@ fn read_line(line: &str) -> Result<Line, Unreadable> {
     }
 }
 
-/// What is printed for all sets of a text; or the number of the first line that cannot be read.
-pub fn answer_all(judge: Judge, text: &str) -> Result<String, usize> {
+/// What is printed for all sets of a text; or why not.
+pub fn answer_all(judge: Judge, text: &str) -> Result<String, String> {
     let mut answers = String::new();
     let mut rows = Vec::new();
     for (number, line) in (1usize..).zip(text.lines()) {
-        match read_line(line).map_err(|Unreadable| number)? {
+        match read_line(line).map_err(|Unreadable| format!("line {number} cannot be read"))? {
             Line::Row(row) => rows.push(row),
             Line::Ask(question) => {
                 answers += &answer(judge, &rows, question).text;
@@ -153,5 +153,9 @@ pub fn answer_all(judge: Judge, text: &str) -> Result<String, usize> {
             }
         }
     }
-    Ok(answers)
+    if rows.is_empty() {
+        Ok(answers)
+    } else {
+        Err(String::from("nothing is asked of the last set"))
+    }
 }
