@@ -31,7 +31,7 @@ impl JobRuns {
     /// Each run gets its next job.
     fn lengthen(&mut self) {
         for (place, total) in (0..).zip(&mut self.totals) {
-            let is_heavy = (place + self.jobs) % self.pattern.among == 0;
+            let is_heavy = (place + self.jobs).is_multiple_of(self.pattern.among);
             *total += if is_heavy { self.pattern.heavy } else { self.pattern.job };
         }
         self.jobs += 1;
