@@ -4,24 +4,26 @@ use crate::check::{check_row, Blame, Check};
 use crate::found::{Found, Judge, Late};
 use crate::row::Row;
 
-/// How many rows there is room for, the rows with what is found for them, and which of them have an unspent hold.
+/// How many rows there is room for, the rows, and which of them have an unspent hold.
 pub struct Account {
     judge: Judge,
     room: usize,
     rows: Vec<Row>,
-    found: Vec<Found>,
+    /// what is found for the rows, where that was asked since one left
+    found: Option<Vec<Found>>,
     unspent: Vec<u32>,
 }
 
 impl Account {
     /// The account of a new table with room for so many rows.
     pub fn new(judge: Judge, room: usize) -> Account {
-        Account { judge, room, rows: Vec::new(), found: Vec::new(), unspent: Vec::new() }
+        Account { judge, room, rows: Vec::new(), found: None, unspent: Vec::new() }
     }
 
-    /// What is found for all rows, highest first.
-    pub fn found(&self) -> &[Found] {
-        &self.found
+    /// What is found for all rows, highest first. Leaving a row out makes none late; if it did, nothing would be found, and the
+    /// table would answer otherwise.
+    pub fn found(&mut self) -> &[Found] {
+        self.found.get_or_insert_with(|| (self.judge)(&self.rows).unwrap_or_default())
     }
 
     pub fn is_held(&self, number: u32) -> bool {
@@ -36,7 +38,7 @@ impl Account {
         check_row(&row, &self.rows, self.room)?;
         let mut rows = self.rows.clone();
         rows.push(row);
-        self.found = (self.judge)(&rows).map_err(|Late(number)| Blame::Late(number))?;
+        self.found = Some((self.judge)(&rows).map_err(|Late(number)| Blame::Late(number))?);
         self.rows = rows;
         self.unspent.push(row.number);
         Ok(())
@@ -66,14 +68,14 @@ impl Account {
     }
 
     /// The row that is asked for its bound.
-    pub fn bound(&self, number: u32) -> Result<Found, Check> {
-        let found = self.found.iter().find(|found| found.number == number);
+    pub fn bound(&mut self, number: u32) -> Result<Found, Check> {
+        let found = self.found().iter().find(|found| found.number == number);
         found.copied().ok_or(Check::NoSuchRow)
     }
 
-    /// Takes a row out. Leaving a row out makes none late; if it did, nothing would be found, and the table would answer otherwise.
+    /// Takes a row out.
     fn leave(&mut self, number: u32) {
         self.rows.retain(|row| row.number != number);
-        self.found = (self.judge)(&self.rows).unwrap_or_default();
+        self.found = None;
     }
 }

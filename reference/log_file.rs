@@ -30,12 +30,13 @@ fn read_table(fields: &Fields) -> Result<usize, Blame> {
 }
 
 /// What is told of all rows.
-fn tell_rows(account: &Account) -> String {
+fn tell_rows(account: &mut Account) -> String {
+    let found = account.found().to_vec();
     let line = |row: &Found| {
         let state = if account.is_held(row.number) { "held" } else { "kept" };
         format!("{}\t{state}\n", row.fields('\t'))
     };
-    account.found().iter().map(line).collect()
+    found.iter().map(line).collect()
 }
 
 /// The number in the second and last field of a call.
