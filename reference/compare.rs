@@ -10,7 +10,7 @@ use std::sync::{Mutex, MutexGuard};
 use std::thread;
 use std::{env, fs, process};
 
-/// So many cases go into one run of a program.
+/// So many cases are taken at a time.
 const BATCH: u64 = 1000;
 
 /// How far a comparison is.
@@ -62,18 +62,14 @@ impl Shared<'_> {
         self.progress.lock().expect("no thread has panicked")
     }
 
-    /// Compares while cases are left and none differed. Each run has a new folder: to write a file that is there once more takes
-    /// some systems far longer.
+    /// Compares while cases are left and none differed.
     fn work(&self, folder: &Path) -> Result<(), Halt> {
         loop {
             let Some(indices) = self.progress().take(self.comparison.count) else {
                 return Ok(());
             };
             let count = indices.end - indices.start;
-            fs::create_dir_all(folder)?;
-            let compared = self.comparison.compare(folder, self.seed, indices);
-            fs::remove_dir_all(folder)?;
-            match compared {
+            match self.comparison.compare(folder, self.seed, indices) {
                 Ok(seen) => self.progress().note(self.comparison, count, &seen),
                 Err(Halt::Differs(difference)) => self.progress().note_difference(difference),
                 Err(failed) => return Err(failed),

@@ -76,7 +76,7 @@ impl Seen {
 
 impl Comparison {
     /// Compares the cases of these numbers. Those that end with one status go into one run of the program, so that it shows where
-    /// one of them ends with another. Their files may stand in the folder.
+    /// one of them ends with another. The folder is for the runs.
     pub fn compare(&self, folder: &Path, seed: u64, indices: Range<u64>) -> Result<Seen, Halt> {
         let make = |index| (index, (self.make)(&mut Random::of_case(seed, index)));
         let cases: Batch = indices.map(make).collect();

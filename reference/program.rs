@@ -61,10 +61,14 @@ impl Program {
         }
     }
 
-    /// Runs it on some cases, in a folder where their files may stand.
+    /// Runs it on some cases. The folder is made for it, with their files, and goes with the run: to write a file that is there once
+    /// more takes some systems far longer.
     pub fn run<'a>(&self, folder: &Path, cases: impl IntoIterator<Item = &'a Case>) -> io::Result<Ran> {
         let cases: Vec<&Case> = cases.into_iter().collect();
-        self.try_to_run(folder, &cases).map_err(|error| about(&self.path, error))
+        fs::create_dir(folder)?;
+        let ran = self.try_to_run(folder, &cases);
+        fs::remove_dir_all(folder)?;
+        ran.map_err(|error| about(&self.path, error))
     }
 
     fn try_to_run(&self, folder: &Path, cases: &[&Case]) -> io::Result<Ran> {
