@@ -15,7 +15,7 @@ use Rattle.demand.specs.declared.factor.Factor.{Factor}
 use Rattle.planfile.specs.declared.fault.Blame.{Blame}
 use Rattle.planfile.specs.Fault.{nothing, at_line, first_blame}
 use Rattle.planfile.specs.Checks.{clock_checks, clock_of}
-use Rattle.planfile.specs.Reading.{claim_in, first_fields, RowTaken, RowRefused, RowsRead, LinesRead}
+use Rattle.planfile.specs.Reading.{claim_in, clock_blame, first_fields, RowTaken, RowRefused, RowsRead, LinesRead}
 use Rattle.planfile.specs.declared.reader.Reader.{Reader}
 use Rattle.planfile.specs.Cut.{lines_left}
 use Rattle.planfile.specs.Laws.{row_lines}
@@ -91,3 +91,14 @@ module _ {T E D : Type 0} (r : Result T E) (s : Result T D) (Said : E → D → 
   -- where it is a fault, the line's answer is one
   pub fault_of_line : (says : E → D) → ((e : E) (d : D) → Said e d → d ≡ says e) → (y : D) → s ≡ Err y → (e : E) × (r ≡ Err e) × (y ≡ says e)
   fault_of_line says are y is = elim r as (λ (r : Result T E). MatchResult r (λ x. s ≡ Ok x) (λ e. IsErrAnd s (Said e)) → (e : E) × (r ≡ Err e) × (y ≡ says e)) [ Ok x ↦ λ t. absurd (cc) | Err e ↦ λ t. (e, refl, are e y (rw is at t)) ] told
+
+-- a fault of row lines names its line
+rows_name_line : (clock : Factor) (n : ℕ) (rows : List Claim) (ls : List (List ℕ)) (b : Blame) → 0 < n → RowsRead clock n rows ls (Err b) → 0 < b.line
+rows_name_line clock n rows [] b some read = absurd (cc)
+rows_name_line clock n rows (line ∷ rest) b some (inl (f, refused, is)) = let e : b ≡ at_line n f = cc in omega (arith, ap (λ (x : Blame). x.line) e)
+rows_name_line clock n rows (line ∷ rest) b some (inr (taken, read)) = rows_name_line clock (n + 1) (claim_in clock (fields line) ∷ rows) rest b (omega arith) read
+
+-- so a fault of the lines of a file does
+pub lines_name_line : (text : List ℕ) (b : Blame) → LinesRead text (Err b) → 0 < b.line
+lines_name_line text b (inl (some, is)) = let e : b ≡ at_line 1 (clock_blame text) = cc in omega (arith, ap (λ (x : Blame). x.line) e)
+lines_name_line text b (inr (pass, read)) = rows_name_line (clock_of (first_fields text)) 2 [] (drop 1 (lines text)) b (omega arith) read

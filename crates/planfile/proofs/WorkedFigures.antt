@@ -89,8 +89,9 @@ pub worked_figures : WorkedFigures
 unfolding digits
 worked_figures =
     record {
-      kinds = (refl, refl, refl, refl, refl, refl, refl, refl, refl, refl, refl);
+      kinds = (refl, refl, refl, refl, refl, refl, refl, refl, refl, refl, refl, refl, refl, refl, refl, refl);
       texts = text_figures;
+      limits = record { rows = refl; locks = refl; number = refl; priority = refl; suspension = refl; suspensions = refl; file = refl; line = refl; report = refl };
       written = refl;
       sound = sound;
       read = garage_read;

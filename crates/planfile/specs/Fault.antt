@@ -49,3 +49,9 @@ abbrev pub blame : Fault → Blame
 blame ReportMemory = by_number 19
 blame File = by_number 18
 blame (Line n f) = at_line n (line_blame f)
+
+-- a fault that names no line: of the file itself, or of the memory lent for its report
+abbrev pub IsOfNoLine : Fault → Type 0
+IsOfNoLine ReportMemory = Unit {0}
+IsOfNoLine File = Unit {0}
+IsOfNoLine (Line n f) = ⊥

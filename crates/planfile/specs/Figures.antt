@@ -3,16 +3,18 @@
 -- end is one claim.
 use Rattle.std.specs.Prelude.{◌≡◌, ℕ, List, [], ◌∷◌, ◌++◌, map, Ok, Err, codes, slice_index}
 use Rattle.analysis.specs.declared.Answer.{Answer}
+use Rattle.analysis.specs.declared.TheConstants.{LOCKS, MOST_ROWS}
 use Rattle.analysis.specs.Judge.{InTime}
 use Rattle.analysis.specs.Plans.{Bounds, Fixed}
 use Rattle.analysis.specs.Ranks.{Claim, Load, ranking, loads, system_of}
 use Rattle.demand.specs.declared.factor.Factor.{Factor}
 use Rattle.demand.specs.Figures.{KindFigures}
 use Rattle.either.specs.declared.Either.TheVariants.{Left}
+use Rattle.table.specs.declared.TheConstants.{LARGEST_NUMBER, LARGEST_PRIORITY, LONGEST_SUSPENSION, MOST_SUSPENSIONS}
 use Rattle.table.specs.declared.hold.Hold.{Hold}
 use Rattle.table.specs.declared.refusals.HoldRefusal.TheVariants.{Late}
 use Rattle.table.specs.Account.{Account, Holds, Withdraws, BoundsAnswered, with_row, with_withdrawn}
-use Rattle.planfile.specs.declared.TheConstants.{REPORT_MEMORY}
+use Rattle.planfile.specs.declared.TheConstants.{LONGEST_FILE, LONGEST_LINE, REPORT_MEMORY}
 use Rattle.planfile.specs.declared.fault.Blame.{Blame}
 use Rattle.planfile.specs.Checks.{Entry, clock_checks, line_checks}
 use Rattle.planfile.specs.Fault.{nothing, by_number, by_field, first_blame}
@@ -170,12 +172,35 @@ pub record TextFigures : Type 0 where
   -- a row line of too few fields
   pub short_row : first_blame (line_checks (fields (codes "row\t1"))) ≡ by_number 15
 
+-- the numbers that the limits of rows, tables and files are
+pub record LimitFigures : Type 0 where
+  -- the most rows that are judged together, or stand in a table
+  pub rows : MOST_ROWS ≡ 12
+  -- how many locks there are
+  pub locks : LOCKS ≡ 8
+  -- the largest number of a row
+  pub number : LARGEST_NUMBER ≡ 255
+  -- its largest priority
+  pub priority : LARGEST_PRIORITY ≡ 255
+  -- its longest suspension
+  pub suspension : LONGEST_SUSPENSION ≡ 1_000_000
+  -- how often it suspends itself at most
+  pub suspensions : MOST_SUSPENSIONS ≡ 63
+  -- the most bytes of a plan file
+  pub file : LONGEST_FILE ≡ 4_096
+  -- of a line of a log
+  pub line : LONGEST_LINE ≡ 4_096
+  -- the bytes that a report is lent
+  pub report : REPORT_MEMORY ≡ 512
+
 -- what follows from the definitions for the kinds, for small texts, for the file of the worked garage, and for calls with its rows
 pub record WorkedFigures : Type 0 where
   -- what each kind comes to at small numbers
   pub kinds : KindFigures
   -- what small texts and lines say
   pub texts : TextFigures
+  -- the limits
+  pub limits : LimitFigures
   -- the three rows, written, are the file
   pub written : plan_text even_clock garage_entries ≡ garage_file
   -- they are rows that a plan file can have

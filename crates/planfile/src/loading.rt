@@ -1,9 +1,9 @@
 //! Loading a plan file.
-ghost use Rattle.std.specs.Prelude.{◌≡◌, ◌+◌, ◌<◌, ◌≤◌, true, List, [], length, IfOk, Ok, Err, MatchResult};
+ghost use Rattle.std.specs.Prelude.{◌≡◌, ◌+◌, ◌<◌, ◌≤◌, true, List, [], length, IfOk, IfErr, Ok, Err, MatchResult};
 ghost use Rattle.analysis.specs.Ranks.{Claim};
 ghost use Rattle.table.specs.Agreement.{AgreesWith};
 ghost use Rattle.planfile.specs.Text.{ends_with_newline};
-ghost use Rattle.planfile.specs.Fault.{blame, nothing};
+ghost use Rattle.planfile.specs.Fault.{blame, nothing, IsOfNoLine};
 ghost use Rattle.planfile.specs.Checks.{row_demand};
 ghost use Rattle.planfile.specs.Reading.{account_with, file_blame, LinesRead, RowsKept};
 ghost use Rattle.planfile.specs.Loading.{Loaded, AnsweredText};
@@ -19,9 +19,10 @@ use table::MOST_ROWS;
 
 // Checks what can be said before a line is read.
 fn check_file(file: &[u8], room: usize) -> Result<(), Fault>
-    ensures { MatchResult result
+    ensures read { MatchResult result
         (λ _. file_blame file.now room ≡ nothing)
         (λ f. file_blame file.now room ≡ blame f) }
+    ensures of_no_line { IfErr result IsOfNoLine }
 {
     if room < REPORT_MEMORY {
         return Err(Fault::ReportMemory);
@@ -72,6 +73,7 @@ fn take_lines(file: &[u8], register: &mut Register<RowKind>) -> Result<Answers, 
 #[tactic(auto, using(crate::proofs::Loads::by_file, crate::proofs::Loads::by_lines, crate::proofs::FileOrder::in_file_order, crate::proofs::OneAnswer::one_answer, crate::proofs::RoundTrip::round_trip))]
 pub fn load(file: &[u8], report: &mut [u8]) -> Result<usize, Fault>
     ensures loaded { Loaded file.now report.old result report.new }
+    ensures of_no_line { IfErr result (λ f. (blame f).line ≡ 0 → IsOfNoLine f) }
     ensures in_file_order { InFileOrder file.now report.old result report.new }
     ensures one_answer { OneAnswer file.now (length report.old) result }
     ensures round_trip { RoundTrip file.now report.old result report.new }

@@ -45,11 +45,12 @@ fn clear<K: Drop>(places: &mut [Option<Task<K>>])
 }
 
 // Empties the places that a table may use.
+#[tactic(auto, using(crate::proofs::Emptying::emptied))]
 fn empty_places<K: Drop>(places: &mut [Option<Task<K>>])
     ensures { Emptied places.old places.new }
 {
     let limit = places.len().min(MOST_ROWS);
-    clear(&mut places[..limit]);
+    clear(&mut places[0..limit]);
 }
 
 impl<'a, K: Kind + Drop> Table<'a, K> {
