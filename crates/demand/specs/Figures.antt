@@ -16,7 +16,7 @@ KindFigures =
     × ((delayed_by 4 (every 2 10)).spacing ≡ 6) × ((delayed_by 4 (every 2 10)).work 6 ≡ 2) × ((delayed_by 4 (every 2 10)).work 7 ≡ 4)
     -- jobs of 3 at 3 / 2 of the time: at most 5, at least 4, and two of them 9
     × ((slowed_by 3 2 (every 3 10)).own ≡ 5) × ((slowed_by 3 2 (every 3 10)).least ≡ 4) × ((slowed_by 3 2 (every 3 10)).work 11 ≡ 9)
-    -- no work is above 2,000,000, and no job or spacing above 1,000,000
+    -- no job and no work that is answered is above 2,000,000, and no job or spacing that is given above 1,000,000
     × (CAP ≡ 2_000_000) × (LONGEST ≡ 1_000_000)
     -- one heavy job is among 2 to 64, and the parts of a factor are at most 1,000
     × (FEWEST_AMONG ≡ 2) × (MOST_AMONG ≡ 64) × (LARGEST_PART ≡ 1_000)

@@ -96,7 +96,8 @@ fn div_up(n: u64, by: u64) -> u64
     n.div_ceil(by)
 }
 
-/// Figures that show what the kinds mean, worked out by hand. The answer is always `true`: the figures are what the contract says.
+/// Figures that show what the kinds mean, worked out by hand, and the limits of kinds as numbers. The answer is always `true`:
+/// the figures are what the contract says.
 pub fn kind_figures_hold() -> bool
     ensures answer { result ≡ true }
     ensures figures { KindFigures }

@@ -1,4 +1,4 @@
--- Figures worked out by hand: of the kinds, of a plan file of three rows, and of calls for its rows. Assumes nothing.
+-- Figures worked out by hand: of the kinds, of a plan file of three rows, and of calls for its rows; and the limits as numbers. Assumes nothing.
 -- How to read it: the file comes first, and all that is said of its rows is said of rows that its bytes give. Each field of `WorkedFigures` at the
 -- end is one claim.
 use Rattle.std.specs.Prelude.{◌≡◌, ℕ, List, [], ◌∷◌, ◌++◌, map, Ok, Err, codes, slice_index}
@@ -172,7 +172,7 @@ pub record TextFigures : Type 0 where
   -- a row line of too few fields
   pub short_row : first_blame (line_checks (fields (codes "row\t1"))) ≡ by_number 15
 
--- the numbers that the limits of rows, tables and files are
+-- the numbers that the limits of rows, tables, files, lines of logs and reports are
 pub record LimitFigures : Type 0 where
   -- the most rows that are judged together, or stand in a table
   pub rows : MOST_ROWS ≡ 12
@@ -193,7 +193,7 @@ pub record LimitFigures : Type 0 where
   -- the bytes that a report is lent
   pub report : REPORT_MEMORY ≡ 512
 
--- what follows from the definitions for the kinds, for small texts, for the file of the worked garage, and for calls with its rows
+-- the limits, and what follows from the definitions for the kinds, for small texts, for the file of the worked garage, and for calls with its rows
 pub record WorkedFigures : Type 0 where
   -- what each kind comes to at small numbers
   pub kinds : KindFigures

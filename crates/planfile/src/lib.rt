@@ -43,7 +43,8 @@ pub const LONGEST_LINE: usize = 4096;
 pub const REPORT_MEMORY: usize = 512;
 
 /// The figures worked out by hand follow from the definitions: of the kinds, of a plan file of three rows, and of calls with
-/// its rows. The answer is always `true`, and no more is computed: the figures are the contract.
+/// its rows. With them stand the limits as numbers. The answer is always `true`, and no more is computed: the figures are the
+/// contract.
 #[tactic(auto, using(crate::proofs::WorkedFigures::worked_figures))]
 pub fn worked_figures_hold() -> bool
     ensures always { result ≡ true }
